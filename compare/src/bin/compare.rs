@@ -1,0 +1,100 @@
+//! The comparison's commands; compare/record, compare/constants and compare/run call it.
+
+use std::io::Write;
+use std::process::ExitCode;
+
+use compare::signals::{Signal, FULL, LOW, NOISY_SPEECH, SPEECH};
+use compare::{constants, record, selftest};
+
+const HELP: &str = "\
+compare record MODULE [-o PATH]  writes a module's recorded answers
+compare calls SEED COUNT         writes COUNT random lists of calls with their answers
+compare audio COUNT              writes COUNT frames as duckline reads them: speech, noisy speech
+compare constants                prints the constants' table
+compare selftest                 tests root, narrowing, round and document 01's examples
+compare paths                    prints each module and where its recorded file lies";
+
+fn put(bytes: &[u8]) -> Result<(), String> {
+    std::io::stdout()
+        .write_all(bytes)
+        .map_err(|e| format!("standard output: {e}"))
+}
+
+fn record(arguments: &[&str]) -> Result<(), String> {
+    let (name, path) = match arguments {
+        [name] => (name, None),
+        [name, "-o", path] | ["-o", path, name] => (name, Some(path)),
+        _ => return Err(format!("usage:\n{HELP}")),
+    };
+    let names: Vec<_> = record::MODULES.iter().map(|m| m.0).collect();
+    let bytes = record::module(name)
+        .ok_or_else(|| format!("no module {name}; there are {}", names.join(", ")))?;
+    match path {
+        Some(path) => std::fs::write(path, bytes).map_err(|e| format!("{path}: {e}")),
+        None => put(&bytes),
+    }
+}
+
+fn number(text: &str) -> Result<u64, String> {
+    text.parse()
+        .map_err(|_| format!("{text} is no whole number"))
+}
+
+fn calls(seed: &str, count: &str) -> Result<(), String> {
+    put(&record::random_calls(number(seed)?, number(count)?))
+}
+
+fn audio(count: &str) -> Result<(), String> {
+    let strands = [
+        Signal::new(SPEECH, 400, FULL),
+        Signal::new(NOISY_SPEECH, 333, LOW),
+    ];
+    for i in 0..number(count)? {
+        for strand in strands {
+            let bytes: Vec<u8> = strand
+                .samples(i * 480, 480)
+                .iter()
+                .flat_map(|x| x.to_le_bytes())
+                .collect();
+            put(&bytes)?;
+        }
+    }
+    Ok(())
+}
+
+fn test() -> Result<(), String> {
+    let (compared, differ) = selftest::run();
+    println!("{compared} compared, {differ} differ");
+    if differ == 0 {
+        Ok(())
+    } else {
+        Err("the self-test differs".to_string())
+    }
+}
+
+fn main() -> ExitCode {
+    let given: Vec<String> = std::env::args().skip(1).collect();
+    let given: Vec<&str> = given.iter().map(String::as_str).collect();
+    let done = match given.as_slice() {
+        [.., "-h" | "--help"] | [] => put(format!("{HELP}\n").as_bytes()),
+        ["record", rest @ ..] => record(rest),
+        ["calls", seed, count] => calls(seed, count),
+        ["audio", count] => audio(count),
+        ["constants"] => put(constants::text().as_bytes()),
+        ["selftest"] => test(),
+        ["paths"] => {
+            record::MODULES
+                .iter()
+                .for_each(|(name, _, path)| println!("{name} {path}"));
+            Ok(())
+        }
+        _ => Err(format!("usage:\n{HELP}")),
+    };
+    match done {
+        Ok(()) => ExitCode::SUCCESS,
+        Err(message) => {
+            eprintln!("compare: {message}");
+            ExitCode::FAILURE
+        }
+    }
+}

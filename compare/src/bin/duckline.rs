@@ -1,0 +1,55 @@
+//! Document 01's duckline of the comparison Rust: 3,840 bytes a frame on standard
+//! input (key, then bed, f32 little-endian), a line for each on standard output.
+
+use std::io::{self, Read, Write};
+
+use compare::driver::{Answer, Chain, Refusal};
+
+const HALF: usize = 1920;
+
+fn samples(bytes: &[u8]) -> Vec<f32> {
+    let number = |b: &[u8]| f32::from_le_bytes([b[0], b[1], b[2], b[3]]);
+    bytes.chunks_exact(4).map(number).collect()
+}
+
+fn line(number: u64, answer: Result<Answer, Refusal>) -> String {
+    match answer {
+        Ok(a) => {
+            let [key, bed] = a.strands.map(|s| u8::from(s.speech_active));
+            let hundredths = (a.status.reduction_db * 100.0).round() as i64;
+            format!("{number} {} {key} {bed} {hundredths}\n", a.status.state)
+        }
+        Err(refusal) => format!("{number} refused {refusal}\n"),
+    }
+}
+
+/// Reads until the buffer is full or the input ends; how many bytes were read.
+fn fill(input: &mut impl Read, buffer: &mut [u8]) -> io::Result<usize> {
+    let mut full = 0;
+    while full < buffer.len() {
+        match input.read(&mut buffer[full..])? {
+            0 => break,
+            n => full += n,
+        }
+    }
+    Ok(full)
+}
+
+fn main() -> io::Result<()> {
+    let mut input = io::BufReader::with_capacity(1 << 16, io::stdin().lock());
+    let mut output = io::BufWriter::new(io::stdout().lock());
+    let mut chain = Chain::default();
+    let mut frame = [0; 2 * HALF];
+    for number in 1.. {
+        let read = fill(&mut input, &mut frame)?;
+        if read < frame.len() {
+            if read > 0 {
+                writeln!(output, "short {read}")?;
+            }
+            break;
+        }
+        let answer = chain.frame(&samples(&frame[..HALF]), &samples(&frame[HALF..]));
+        output.write_all(line(number, answer).as_bytes())?;
+    }
+    output.flush()
+}

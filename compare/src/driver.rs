@@ -1,0 +1,320 @@
+//! Document 01's chain around the Rust: settings, resets, the wiring of a frame
+//! (module 5), refusals, and answers by their bits.
+
+use crate::auto::level::Reading;
+use crate::auto::ratio::{Inputs, RatioStatus, State};
+use crate::auto::vad::{Vad, VadState, FRAME};
+use crate::mix::auto::{ChannelDepth, Duck, DuckMode, Ratio, VadDetector, VadSettings};
+use crate::mix::model::Db;
+use crate::standins;
+use crate::words::Words;
+
+/// A refusal's number.
+pub type Refusal = u64;
+const SHORT_FRAME: Refusal = 1;
+const BAD_SAMPLE: Refusal = 2;
+const BAD_SETTING: Refusal = 3;
+const RUNAWAY: Refusal = 4;
+const COUNTER_FULL: Refusal = 5;
+const NO_STRAND: Refusal = 9;
+
+/// The 12 settings in document 01's order; flags are 0 or 1.
+#[derive(Debug, Clone, Copy, PartialEq)]
+pub struct Settings {
+    /// Threshold, hold_ms and gate_lufs of the key and the bed.
+    pub strands: [[f64; 3]; 2],
+    pub enabled: bool,
+    pub target_lu: f64,
+    pub overvoice_lu: f64,
+    pub max_reduction_db: f64,
+    pub speed: f64,
+    pub bed_voice: bool,
+}
+
+impl Default for Settings {
+    fn default() -> Self {
+        Self {
+            strands: [[0.5, 300.0, -50.0]; 2],
+            enabled: true,
+            target_lu: 5.0,
+            overvoice_lu: 13.0,
+            max_reduction_db: 24.0,
+            speed: 1.0,
+            bed_voice: true,
+        }
+    }
+}
+
+const STRAND_RANGES: [(f64, f64); 3] = [(0.0, 1.0), (0.0, 60_000.0), (-100.0, 0.0)];
+const DUCK_RANGES: [(f64, f64); 4] = [(0.0, 40.0), (0.0, 40.0), (0.0, 60.0), (0.01, 100.0)];
+
+/// The value that is stored: in range, negative zero as zero.
+fn stored(x: f64, (low, high): (f64, f64)) -> Result<f64, Refusal> {
+    if low <= x && x <= high {
+        Ok(if x == 0.0 { 0.0 } else { x })
+    } else {
+        Err(BAD_SETTING)
+    }
+}
+
+impl Settings {
+    fn duck_numbers(&self) -> [f64; 4] {
+        [
+            self.target_lu,
+            self.overvoice_lu,
+            self.max_reduction_db,
+            self.speed,
+        ]
+    }
+
+    /// As a settings call stores them.
+    pub fn checked(mut self) -> Result<Self, Refusal> {
+        for strand in &mut self.strands {
+            for (x, range) in strand.iter_mut().zip(STRAND_RANGES) {
+                *x = stored(*x, range)?;
+            }
+        }
+        let mut duck = self.duck_numbers();
+        for (x, range) in duck.iter_mut().zip(DUCK_RANGES) {
+            *x = stored(*x, range)?;
+        }
+        [
+            self.target_lu,
+            self.overvoice_lu,
+            self.max_reduction_db,
+            self.speed,
+        ] = duck;
+        Ok(self)
+    }
+
+    /// Their 12 words.
+    pub fn store(&self, to: &mut Words) {
+        to.put_numbers(self.strands.as_flattened());
+        self.store_duck(to);
+    }
+
+    /// The duck's 6 words.
+    pub fn store_duck(&self, to: &mut Words) {
+        to.put_flag(self.enabled);
+        to.put_numbers(&self.duck_numbers());
+        to.put_flag(self.bed_voice);
+    }
+
+    pub fn vad(&self, strand: usize) -> VadSettings {
+        let [threshold, hold_ms, gate_lufs] = self.strands[strand];
+        VadSettings {
+            signal: String::new(),
+            threshold,
+            hold_ms,
+            gate_lufs,
+            detector: VadDetector::Features,
+        }
+    }
+
+    pub fn duck(&self) -> Duck {
+        Duck {
+            id: String::new(),
+            name: String::new(),
+            enabled: self.enabled,
+            keys: Vec::new(),
+            targets: Vec::new(),
+            mode: DuckMode::Ratio,
+            depth_db: Db(0.0),
+            attack_ms: 0.0,
+            hold_ms: 0.0,
+            release_ms: 0.0,
+            ratio: Ratio {
+                target_lu: self.target_lu,
+                overvoice_lu: self.overvoice_lu,
+                max_reduction_db: self.max_reduction_db,
+                speed: self.speed,
+                bed_voice: self.bed_voice,
+            },
+            channel_depth: ChannelDepth {
+                front: 1.0,
+                center: 1.0,
+                lfe: 1.0,
+                surround: 1.0,
+            },
+            recall_safe: false,
+        }
+    }
+}
+
+/// What an accepted frame answers.
+#[derive(Debug, Clone, Copy)]
+pub struct Answer {
+    pub status: RatioStatus,
+    pub reduction: f64,
+    pub strands: [VadState; 2],
+}
+
+/// 0 release, 1 duck, 2 interview, 3 overvoice.
+fn state_number(name: &str) -> u64 {
+    let names = ["release", "duck", "interview", "overvoice"];
+    names
+        .iter()
+        .position(|n| *n == name)
+        .expect("a state of MixState") as u64
+}
+
+/// 13 words: state, unrounded reduction, reduction, slow, mid, fast, target; ratio,
+/// dialogue and bed each as flag and value.
+pub fn store_status(status: &RatioStatus, reduction: f64, to: &mut Words) {
+    to.put(state_number(status.state));
+    to.put_numbers(&[
+        reduction,
+        status.reduction_db,
+        status.slow_db,
+        status.mid_db,
+        status.fast_db,
+    ]);
+    to.put_f64(status.target_lu);
+    to.put_option(status.ratio_lu);
+    to.put_option(status.dialogue_lufs);
+    to.put_option(status.bed_lufs);
+}
+
+/// 14 words: active, probability, speech level as flag and value, level, momentary,
+/// gated, short-term, onsets, offsets, over floor, modulation, voicing, anti.
+pub fn store_vad(state: &VadState, to: &mut Words) {
+    to.put_flag(state.speech_active);
+    to.put_f64(state.speech_probability);
+    to.put_option(state.speech_level_dbfs);
+    to.put_numbers(&[state.level_dbfs, state.momentary_lufs]);
+    to.put_flag(state.gated);
+    to.put_f64(state.short_term_lufs);
+    to.put_all(&[state.speech_onsets, state.speech_offsets]);
+    let f = &state.features;
+    to.put_numbers(&[f.over_floor_db, f.modulation_db, f.voicing, f.anti]);
+}
+
+impl Answer {
+    /// 41 words: the status, the key, the bed.
+    pub fn store(&self, to: &mut Words) {
+        store_status(&self.status, self.reduction, to);
+        self.strands.iter().for_each(|s| store_vad(s, to));
+    }
+}
+
+/// The parts that a frame changes.
+#[derive(Clone)]
+struct Running {
+    strands: [Vad; 2],
+    ducker: State,
+}
+
+pub struct Chain {
+    settings: Settings,
+    vad_settings: [VadSettings; 2],
+    duck: Duck,
+    running: Running,
+}
+
+impl Default for Chain {
+    fn default() -> Self {
+        let settings = Settings::default();
+        Self {
+            settings,
+            vad_settings: [settings.vad(0), settings.vad(1)],
+            duck: settings.duck(),
+            running: Running {
+                strands: [Vad::default(), Vad::default()],
+                ducker: State::new(&settings.duck()),
+            },
+        }
+    }
+}
+
+impl Running {
+    /// Key strand, bed strand, ducker.
+    fn frame(&mut self, samples: [&[f32]; 2], vads: &[VadSettings; 2], duck: &Duck) -> Answer {
+        let mut readings = [Reading::default(); 2];
+        for (i, strand) in self.strands.iter_mut().enumerate() {
+            strand.push(samples[i], &vads[i], |_, r| readings[i] = *r);
+        }
+        let [key, bed] = readings;
+        let strands = [self.strands[0].state, self.strands[1].state];
+        let inputs = Inputs {
+            key_voice: strands[0].speech_active,
+            target_voice: strands[1].speech_active,
+            dialogue_short_term: key.short_term,
+            bed_short_term: bed.short_term,
+            bed_momentary: bed.momentary,
+            bed_fast: bed.fast,
+        };
+        let reduction = self.ducker.frame(duck, &inputs);
+        Answer {
+            status: self.ducker.status,
+            reduction,
+            strands,
+        }
+    }
+}
+
+impl Chain {
+    /// A frame as the Rust runs it, without tests and copies (for timing).
+    pub fn frame_untested(&mut self, key: &[f32], bed: &[f32]) -> Answer {
+        self.running
+            .frame([key, bed], &self.vad_settings, &self.duck)
+    }
+
+    pub fn frame(&mut self, key: &[f32], bed: &[f32]) -> Result<Answer, Refusal> {
+        if key.len() != FRAME || bed.len() != FRAME {
+            return Err(SHORT_FRAME);
+        }
+        if !key.iter().chain(bed).all(|x| x.is_finite()) {
+            return Err(BAD_SAMPLE);
+        }
+        let mut next = self.running.clone();
+        standins::take_met();
+        let answer = next.frame([key, bed], &self.vad_settings, &self.duck);
+        let mut numbers = Words::default();
+        next.store(&mut numbers);
+        answer.store(&mut numbers);
+        if standins::take_met() || !numbers.finite {
+            return Err(RUNAWAY);
+        }
+        if next
+            .strands
+            .iter()
+            .any(|s| s.state.speech_onsets > u64::from(u32::MAX))
+        {
+            return Err(COUNTER_FULL);
+        }
+        self.running = next;
+        Ok(answer)
+    }
+
+    pub fn set(&mut self, settings: Settings) -> Result<(), Refusal> {
+        self.settings = settings.checked()?;
+        self.vad_settings = [self.settings.vad(0), self.settings.vad(1)];
+        self.duck = self.settings.duck();
+        Ok(())
+    }
+
+    pub fn reset(&mut self, strand: u64) -> Result<(), Refusal> {
+        if strand > 1 {
+            return Err(NO_STRAND);
+        }
+        self.running.strands[strand as usize].reset();
+        Ok(())
+    }
+
+    /// The 1,323 payload words of document 01's image.
+    pub fn payload(&self) -> Vec<u64> {
+        let mut words = Words::default();
+        words.put(1);
+        self.settings.store(&mut words);
+        self.running.store(&mut words);
+        words.put_zeros(50);
+        words.words
+    }
+}
+
+impl Running {
+    fn store(&self, to: &mut Words) {
+        self.strands.iter().for_each(|s| s.store(to));
+        to.put_numbers(&self.ducker.numbers());
+    }
+}

@@ -1,0 +1,5 @@
+impl AutomixEngine {
+    pub fn numbers(&self) -> [f64; 4] {
+        self.loops.numbers()
+    }
+}

@@ -1,0 +1,25 @@
+//! The comparison Rust (assembled into target/compare/upstream by compare/assemble)
+//! with document 01's stand-ins, and what we build around it.
+
+#[path = "../../target/compare/upstream/auto/mod.rs"]
+pub mod auto;
+#[path = "../../target/compare/upstream/config.rs"]
+pub mod config;
+#[path = "../../target/compare/upstream/dsp/mod.rs"]
+pub mod dsp;
+#[path = "../../target/compare/upstream/mix/mod.rs"]
+pub mod mix;
+
+pub mod calls;
+pub mod constants;
+pub mod decision;
+pub mod driver;
+pub mod ducker;
+pub mod lists;
+pub mod numbers;
+pub mod random;
+pub mod record;
+pub mod selftest;
+pub mod signals;
+pub mod standins;
+pub mod words;

@@ -1,0 +1,247 @@
+//! The lists of calls that are recorded for whole frames and images.
+
+use crate::calls::{Call, Replaced};
+use crate::driver::Settings;
+use crate::random::Random;
+use crate::signals::*;
+
+fn frames(key: Signal, bed: Signal, first: u64, count: u64, every: u64) -> Call {
+    Call::Frames {
+        key,
+        bed,
+        first,
+        count,
+        every,
+    }
+}
+
+fn silence() -> Signal {
+    Signal::new(SILENCE, 0, FULL)
+}
+
+fn talker() -> Signal {
+    Signal::new(SPEECH, 400, FULL)
+}
+
+fn noise(scale: f32) -> Signal {
+    Signal::new(NOISE, 9, scale)
+}
+
+/// Speech over a crowd, both talking, the bed talking alone, and back.
+fn talking() -> Vec<Call> {
+    let other = Signal::new(NOISY_SPEECH, 333, FULL);
+    vec![
+        Call::Fresh,
+        frames(talker(), noise(LOW), 0, 320, 6),
+        frames(talker(), other, 153_600, 200, 6),
+        frames(silence(), other, 249_600, 250, 6),
+        frames(talker(), noise(FULL), 369_600, 100, 6),
+        Call::Reset(0),
+        frames(silence(), silence(), 0, 120, 10),
+        frames(other, talker(), 0, 150, 6),
+        Call::Reset(1),
+        frames(other, talker(), 72_000, 60, 6),
+    ]
+}
+
+/// Every setting's ends, in the middle of speech; refused settings change nothing.
+fn settings() -> Vec<Call> {
+    let fresh = Settings::default();
+    let strands = |threshold, hold, gate| Settings {
+        strands: [[threshold, hold, gate]; 2],
+        ..fresh
+    };
+    let duck = |target_lu, overvoice_lu, max_reduction_db, speed| Settings {
+        target_lu,
+        overvoice_lu,
+        max_reduction_db,
+        speed,
+        ..fresh
+    };
+    let choices = [
+        strands(0.0, 0.0, -100.0),
+        strands(1.0, 60_000.0, 0.0),
+        strands(-0.0, -0.0, -0.0),
+        strands(0.04, 14.9, -70.0),
+        strands(0.2, 15.0, -23.0),
+        strands(-1e-300, 0.0, 0.0),
+        strands(0.5, 60_000.1, -50.0),
+        strands(0.5, 300.0, f64::NAN),
+        strands(f64::INFINITY, 300.0, -50.0),
+        duck(0.0, 0.0, 0.0, 0.01),
+        duck(40.0, 40.0, 60.0, 100.0),
+        duck(-0.0, 40.0, 24.0, 0.3),
+        duck(5.0, 40.1, 24.0, 1.0),
+        duck(5.0, 13.0, 24.0, 0.0099),
+        duck(5.0, 13.0, f64::NEG_INFINITY, 1.0),
+        Settings {
+            enabled: false,
+            ..duck(7.0, 13.0, 24.0, 1.0)
+        },
+        Settings {
+            bed_voice: false,
+            ..fresh
+        },
+        fresh,
+    ];
+    let mut out = vec![Call::Fresh];
+    for (i, choice) in choices.into_iter().enumerate() {
+        out.push(Call::Set(choice));
+        let bed = Signal::new(if i % 2 == 0 { NOISY_SPEECH } else { BURSTS }, 350, LOW);
+        out.push(frames(talker(), bed, i as u64 * 9_600, 20, 5));
+    }
+    out
+}
+
+fn odd(key: usize, bed: usize, replaced: Option<Replaced>) -> Call {
+    Call::Odd {
+        key: talker(),
+        bed: noise(LOW),
+        first: 48_000,
+        lengths: [key, bed],
+        replaced,
+    }
+}
+
+/// Short and long frames, bad samples, a missing strand; then runaways.
+fn refused() -> Vec<Call> {
+    let bad = |strand, index, value| {
+        Some(Replaced {
+            strand,
+            index,
+            value,
+        })
+    };
+    let mut out = vec![Call::Fresh, odd(480, 480, None)];
+    out.extend(
+        [(479, 480), (480, 479), (0, 0), (481, 480), (480, 481)].map(|(k, b)| odd(k, b, None)),
+    );
+    out.extend([
+        odd(480, 479, bad(0, 5, f32::NAN)),
+        odd(480, 480, bad(0, 0, f32::NAN)),
+        odd(480, 480, bad(0, 479, f32::INFINITY)),
+        odd(480, 480, bad(1, 479, f32::NEG_INFINITY)),
+        odd(480, 480, bad(1, 240, f32::MAX)),
+        odd(480, 480, bad(0, 17, -0.0)),
+        odd(480, 480, bad(1, 0, f32::from_bits(1))),
+        Call::Reset(2),
+        Call::Reset(u64::MAX),
+        Call::Reset(0),
+        odd(480, 480, None),
+    ]);
+    let square = Signal::new(SQUARE, 96, LOUD);
+    for (key, bed) in [(square, square), (square, silence()), (silence(), square)] {
+        out.extend([
+            Call::Fresh,
+            frames(key, bed, 0, 3, 1),
+            frames(talker(), noise(LOW), 0, 6, 3),
+        ]);
+    }
+    // A runaway in the middle changes nothing.
+    let half = Signal::new(SQUARE, 96, LOUD / 2.0);
+    out.extend([
+        Call::Fresh,
+        frames(talker(), half, 0, 30, 10),
+        frames(talker(), square, 14_400, 2, 1),
+        frames(talker(), half, 14_400, 10, 3),
+    ]);
+    out
+}
+
+/// Every signal against a neighbour of its list, some seconds each.
+fn every_signal() -> Vec<Call> {
+    let all = all();
+    let mut out = Vec::new();
+    for (i, key) in all.iter().enumerate() {
+        let bed = all[(i * 7 + 3) % all.len()];
+        out.extend([Call::Fresh, frames(*key, bed, i as u64 * 5_003, 60, 12)]);
+    }
+    out
+}
+
+fn random_settings(random: &mut Random) -> Settings {
+    let mut s = Settings::default();
+    for strand in &mut s.strands {
+        *strand = [
+            random.between(0.0, 0.8),
+            random.pick(&[0.0, 20.0, 300.0, 1_000.0]),
+            random.pick(&[-100.0, -60.0, -40.0, -20.0]),
+        ];
+    }
+    s.enabled = random.chance(85);
+    s.target_lu = random.between(0.0, 40.0);
+    s.overvoice_lu = random.between(0.0, 41.0);
+    s.max_reduction_db = random.between(0.0, 60.0);
+    s.speed = random.pick(&[0.01, 0.25, 1.0, 3.7, 8.0, 100.0]);
+    s.bed_voice = random.chance(70);
+    s
+}
+
+fn random_signal(random: &mut Random) -> Signal {
+    if random.chance(50) {
+        return random.pick(&all());
+    }
+    let signal = random.pick(&[SPEECH, NOISY_SPEECH, NOISY_SPEECH, BURSTS, NOISE]);
+    Signal::new(
+        signal,
+        250 + random.below(300),
+        random.pick(&[FULL, LOW, SOFT]),
+    )
+}
+
+/// One list of about `calls` calls on a fresh chain.
+pub fn random_list(random: &mut Random, calls: u64, every: u64) -> Vec<Call> {
+    let mut out = vec![Call::Fresh];
+    let mut at = random.below(1 << 20);
+    for _ in 0..calls {
+        out.push(match random.below(10) {
+            0..=1 => Call::Set(random_settings(random)),
+            2 => Call::Reset(random.below(3)),
+            _ => {
+                let count = 1 + random.below(60);
+                let call = frames(
+                    random_signal(random),
+                    random_signal(random),
+                    at,
+                    count,
+                    every,
+                );
+                at += count * 480;
+                call
+            }
+        });
+    }
+    out
+}
+
+/// The recorded whole frames.
+pub fn recorded() -> Vec<Call> {
+    let mut out = vec![Call::Fresh, frames(silence(), silence(), 0, 2, 1)];
+    out.extend([talking(), settings(), refused(), every_signal()].concat());
+    let random = &mut Random::new(2);
+    for _ in 0..12 {
+        out.extend(random_list(random, 12, 9));
+    }
+    out
+}
+
+/// The recorded images: saves after some seconds of several kinds.
+pub fn saved() -> Vec<Call> {
+    let minus = Signal::new(SILENCE, 0, -1.0);
+    let mut out = vec![
+        Call::Fresh,
+        Call::Save,
+        frames(minus, silence(), 0, 1, 1),
+        Call::Save,
+    ];
+    for count in [3, 22, 50, 250] {
+        out.extend([frames(talker(), noise(LOW), 0, count, 50), Call::Save]);
+    }
+    out.extend([Call::Reset(0), Call::Save]);
+    let random = &mut Random::new(3);
+    for _ in 0..8 {
+        out.extend(random_list(random, 8, 50));
+        out.push(Call::Save);
+    }
+    out
+}

@@ -1,0 +1,153 @@
+//! The recorded answers, module by module.
+
+use crate::auto::level::Level;
+use crate::auto::vad::{Detector, FeatureDetector, Inside};
+use crate::dsp::biquad;
+use crate::dsp::loudness::{K_HIGH_PASS, K_SHELF};
+use crate::random::Random;
+use crate::signals;
+use crate::words::Words;
+use crate::{calls, decision, ducker, lists, numbers, standins};
+
+/// Module, its recorder, and where the repository keeps the file.
+pub const MODULES: [(&str, fn() -> Vec<u8>, &str); 8] = [
+    ("numbers", numbers::record, "crates/recorded_numbers/stdin"),
+    ("filter", filter, "crates/recorded_filter/stdin"),
+    ("level", level, "crates/recorded_level/stdin"),
+    ("detector", detector, "crates/recorded_detector/stdin"),
+    (
+        "decision",
+        decision::record,
+        "crates/recorded_decision/stdin",
+    ),
+    ("ducker", ducker::record, "crates/recorded_ducker/stdin"),
+    ("frames", frames, "crates/recorded_frames/stdin"),
+    ("images", images, "crates/recorded_images/stdin"),
+];
+
+/// Per set and signal: set, signal, seed, scale's bits, count, then `count` outputs
+/// and the state's z1 and z2 at the end.
+fn filter() -> Vec<u8> {
+    const COUNT: usize = 250;
+    let [b1, b2, p1, p2] = FeatureDetector::default().coefficients();
+    let mut words = Words::default();
+    for (set, c) in [K_SHELF, K_HIGH_PASS, b1, b2, p1, p2].iter().enumerate() {
+        for signal in signals::all() {
+            words.put(set as u64);
+            words.put_all(&signal.words());
+            words.put(COUNT as u64);
+            let mut state = biquad::State::default();
+            for x in signal.samples(0, COUNT) {
+                words.put_f64(state.tick(c, f64::from(x)));
+            }
+            words.put_numbers(&state.numbers());
+        }
+    }
+    words.file(
+        "filter, made by compare/record filter. Up to the end: set (0 K shelf, 1 K high-pass, \
+         2 3 band, 4 5 pitch), signal, seed, f32 bits of the scale, count, then the outputs of \
+         samples 0 to count - 1 by their bits, z1, z2 after them.",
+    )
+}
+
+/// Whether frame i is among those recorded: the first 50, then one in ten.
+fn shown(i: u64) -> bool {
+    i < 50 || i % 10 == 0
+}
+
+/// Per signal: signal, seed, scale's bits, count of frames, then the words that
+/// `frame` puts, for each frame that is shown.
+fn signals_by_frames(
+    count: u64,
+    mut fresh: impl FnMut() -> Box<dyn FnMut(&[f32], bool, &mut Words)>,
+) -> Words {
+    let mut words = Words::default();
+    for signal in signals::all() {
+        words.put_all(&signal.words());
+        words.put(count);
+        let mut frame = fresh();
+        for i in 0..count {
+            frame(&signal.samples(i * 480, 480), shown(i), &mut words);
+        }
+    }
+    words
+}
+
+fn level() -> Vec<u8> {
+    let words = signals_by_frames(1_500, || {
+        let mut level = Level::new(vec![1.0]);
+        Box::new(move |x, shown, words| {
+            let r = level.frame(&[x]);
+            if shown {
+                words.put_numbers(&[r.power, r.momentary, r.short_term, r.fast]);
+            }
+        })
+    });
+    words.file(
+        "level, made by compare/record level. Up to the end: signal, seed, f32 bits of the scale, \
+         count of frames; for the frames 0 to 49 and each tenth after (50, 60, ..) power, \
+         momentary, short_term, fast. Each signal starts a fresh Level.",
+    )
+}
+
+fn detector() -> Vec<u8> {
+    let words = signals_by_frames(700, || {
+        let mut detector = FeatureDetector::default();
+        Box::new(move |x, shown, words| {
+            let f = detector.frame(x);
+            let mut stored = Words::default();
+            detector.store_filters(&mut stored);
+            detector.store_rest(&mut stored);
+            assert!(
+                !standins::take_met() && stored.finite,
+                "a recorded frame runs away"
+            );
+            if shown {
+                words.put_numbers(&[f.probability, f.level_dbfs]);
+                words.put_numbers(&f.features);
+            }
+        })
+    });
+    words.file(
+        "detector, made by compare/record detector. Up to the end: signal, seed, f32 bits of the \
+         scale, count of frames; for the frames 0 to 49 and each tenth after (50, 60, ..) \
+         probability, level_dbfs, over floor, modulation, voiced, anti. Each starts fresh.",
+    )
+}
+
+fn frames() -> Vec<u8> {
+    let mut words = Words::default();
+    calls::run(&lists::recorded(), &mut words);
+    words.file(
+        "frames, made by compare/record frames. Calls with their answers up to the end: 0 fresh, \
+         1 frames, 2 an odd frame, 3 settings, 4 reset; compare/src/calls.rs has their words, \
+         compare/src/driver.rs the 41 words of an answer.",
+    )
+}
+
+fn images() -> Vec<u8> {
+    let mut words = Words::default();
+    calls::run(&lists::saved(), &mut words);
+    words.file(
+        "images, made by compare/record images. Calls as in frames, and 5, a save: the 1,323 \
+         payload words of document 01.",
+    )
+}
+
+/// The recorded file of a module.
+pub fn module(name: &str) -> Option<Vec<u8>> {
+    MODULES
+        .iter()
+        .find(|(n, ..)| *n == name)
+        .map(|(_, record, _)| record())
+}
+
+/// Random lists of calls with every answer, for a port's `replay`.
+pub fn random_calls(seed: u64, count: u64) -> Vec<u8> {
+    let mut words = Words::default();
+    let random = &mut Random::new(seed);
+    for _ in 0..count {
+        calls::run(&lists::random_list(random, 12, 1), &mut words);
+    }
+    words.file("calls, made by compare calls; as frames, every answer whole.")
+}

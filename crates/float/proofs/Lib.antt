@@ -1,0 +1,11 @@
+pub mod Exact
+pub mod Plus
+pub mod Signs
+pub mod Whole
+pub mod Rounding
+pub mod Difference
+pub mod Digits
+pub mod Units
+pub mod Classified
+pub mod Coded
+pub mod Powers

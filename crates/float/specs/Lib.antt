@@ -1,0 +1,5 @@
+pub mod Valid
+pub mod Units
+pub mod Kind
+pub mod Choice
+pub mod Whole

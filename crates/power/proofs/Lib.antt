@@ -1,0 +1,10 @@
+pub mod Table
+pub mod Products
+pub mod Turns
+pub mod Bits
+pub mod Floors
+pub mod Cases
+pub mod Bounds
+pub mod Values
+pub mod Scaled
+pub mod Examples

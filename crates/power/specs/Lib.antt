@@ -1,0 +1,4 @@
+pub mod Roots
+pub mod Power
+pub mod Bounds
+pub mod Examples

@@ -1,0 +1,13 @@
+// What is promised of the crates together. The functions do nothing: their contracts hold the laws, so that the laws are part of the verdict.
+ghost use Rattle.promises.specs.StandIns.{StandIns};
+ghost use Rattle.promises.specs.Examples.{Examples};
+
+// The bounds of logarithm and power, and that the root is the nearest f64.
+pub fn stand_ins()
+    ensures { λ _. ⌜ StandIns ⌝ }
+{}
+
+// The examples of document 01 that are marked P.
+pub fn examples()
+    ensures { λ _. ⌜ Examples ⌝ }
+{}

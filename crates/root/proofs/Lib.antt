@@ -1,0 +1,10 @@
+pub mod Squares
+pub mod Digits
+pub mod Checked
+pub mod Scaled
+pub mod Midpoints
+pub mod Rounded
+pub mod Nearest
+pub mod Cases
+pub mod Laws
+pub mod Examples
