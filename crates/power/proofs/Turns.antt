@@ -3,9 +3,9 @@ use mathlib.Core.Path.{_≡_, refl, sym, ap, _∙_, subst}
 use mathlib.Core.Bool.{Bool, true, false, cond}
 use mathlib.Core.List.{List, [], _∷_}
 use Prim.Native.Nat.{ℕ, zero, suc, _+_, _-_, _*_, _/_, _%_, _^_, _≤_, _<_}
-use native.Mathlib.Nat.{le-trans, le-of-eq, le-refl, lt-of-lt-of-le, lt-of-le-of-lt, lt-of-not-le, not-le-of-lt, le-of-suc-le-suc, not-suc-le-zero, mul-le-mul-left, le-div-iff-mul-le, pow-le-pow-left, le-of-lt, mul-lt-mul-of-pos-right}
+use native.Mathlib.Nat.{mul-div-cancel, mod-lt, le-trans, le-of-eq, le-refl, lt-of-lt-of-le, lt-of-le-of-lt, lt-of-not-le, not-le-of-lt, le-of-suc-le-suc, not-suc-le-zero, mul-le-mul-left, le-div-iff-mul-le, pow-le-pow-left, le-of-lt, mul-lt-mul-of-pos-right}
 use native.Mathlib.Omega.{arith}
-use lib.Dec.{T, leb, ltb, eqb, leb→le}
+use lib.Dec.{T, leb, ltb, eqb, leb→le, lit≤}
 use borrow.Author.Tests.{eq-eqb, ne-eqb}
 use lib.Pow.{pow-add, pow-pos, pow-lt}
 use lib.ListN.{length, getD, drop, length-drop}
@@ -68,7 +68,7 @@ step-at f m i h =
     next : (i : ℕ) → suc i ≡ i + 1
     next i = omega arith
 
-pub turn-one : (f m i x : ℕ) → i < 24 → f / 2 ^ (23 - i) % 2 ≡ 1 → x ≡ getD roots i 0 → Left f m i → Left f (m * x / 2 ^ 30) (i + 1)
+turn-one : (f m i x : ℕ) → i < 24 → f / 2 ^ (23 - i) % 2 ≡ 1 → x ≡ getD roots i 0 → Left f m i → Left f (m * x / 2 ^ 30) (i + 1)
 turn-one f m i x h b e l =
     let r = root-in i h in
     let big : 2 ^ 30 ≤ x = omega arith in (
@@ -79,13 +79,30 @@ turn-one f m i x h b e l =
           ∙ l .2,
     )
 
-pub turn-zero : (f m i : ℕ) → i < 24 → (f / 2 ^ (23 - i) % 2 ≡ 1 → ⊥) → Left f m i → Left f m (i + 1)
+turn-zero : (f m i : ℕ) → i < 24 → (f / 2 ^ (23 - i) % 2 ≡ 1 → ⊥) → Left f m i → Left f m (i + 1)
 turn-zero f m i h b l = (
   l .0,
   omega arith,
   sym (step-at f m i h ∙ ap (λ (t : Bool). raise (drop (i + 1) roots) f (cond t (m * getD roots i 0 / 2 ^ 30) m)) (ne-eqb (f / 2 ^ (23 - i) % 2) 1 b))
       ∙ l .2,
 )
+
+-- a bit that is set takes the root, one that isn't takes 1
+pub turn : (f m i x b : ℕ) → i < 24 → f / 2 ^ (23 - i) % 2 ≡ b → x ≡ getD roots i 0 → Left f m i → Left f (m * (2 ^ 30 + b * (x - 2 ^ 30)) / 2 ^ 30) (i + 1)
+turn f m i x zero h e g l =
+    let none : 2 ^ 30 + 0 * (x - 2 ^ 30) ≡ 2 ^ 30 = omega arith in
+    subst (λ (n : ℕ). Left f n (i + 1)) (sym (ap (λ (n : ℕ). m * n / 2 ^ 30) none ∙ mul-div-cancel m (pow-pos 30))) (turn-zero f m i h (λ z. omega arith) l)
+turn f m i x (suc zero) h e g l =
+    let r = root-in i h in
+    let one : 2 ^ 30 + 1 * (x - 2 ^ 30) ≡ x = omega arith in
+    subst (λ (n : ℕ). Left f (m * n / 2 ^ 30) (i + 1)) (sym one) (turn-one f m i x h e g l)
+turn f m i x (suc (suc b)) h e g l = absurd (omega (arith, mod-lt (f / 2 ^ (23 - i)) (lit≤ {m = 1} {n = 2} tt)))
+
+-- such a factor has 31 digits
+pub factor-lt : (i x b : ℕ) → i < 24 → x ≡ getD roots i 0 → b < 2 → (b * (x - 2 ^ 30) < 2 ^ 30) × (2 ^ 30 + b * (x - 2 ^ 30) < 2 ^ 32)
+factor-lt i x zero h g l = (omega arith, omega arith)
+factor-lt i x (suc zero) h g l = let r = root-in i h in (omega arith, omega arith)
+factor-lt i x (suc (suc b)) h g l = absurd (omega arith)
 
 -- nothing is left
 none-left : (xs : List ℕ) (f m i : ℕ) → length xs ≤ i → raise (drop i xs) f m ≡ m

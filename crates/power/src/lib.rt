@@ -68,12 +68,9 @@ fn fraction(f: u64) -> u64
     let mut m = ONE;
     let mut i = 0usize;
     while i < 24 {
-        if (f >> (23 - i)) % 2 == 1 {
-            m = m * root(i) / ONE;
-            i += 1;
-        } else {
-            i += 1;
-        }
+        let bit = (f >> (23 - i)) % 2;
+        m = m * (ONE + bit * (root(i) - ONE)) / ONE;
+        i += 1;
     }
     m
 }

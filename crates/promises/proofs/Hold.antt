@@ -5,6 +5,13 @@ use Rattle.power.proofs.Table.{roots-rule}
 use Rattle.power.proofs.Bounds.{exp2-bounds}
 use Rattle.power.proofs.Examples.{power-examples}
 use Rattle.root.proofs.Nearest.{sqrt-nearest, nearest-is}
+use Rattle.level.proofs.Bs1770.{level-bs1770}
+use Rattle.level.proofs.Deque.{level-deque, level-deque-reading}
+use Rattle.level.proofs.Valid.{fresh-valid, frame-valid}
+use Rattle.ratio.specs.Laws.{DuckerLaws}
+use Rattle.ratio.proofs.Laws.{ducker-laws}
+use Rattle.ratio.proofs.Examples.{ratio-examples}
+use Rattle.promises.specs.Loudness.{Loudness}
 use Rattle.promises.specs.StandIns.{StandIns}
 use Rattle.promises.specs.Examples.{Examples}
 
@@ -19,4 +26,10 @@ stand-ins = record {
 }
 
 pub examples : Examples
-examples = record { logarithm = log-examples; power = power-examples }
+examples = record { logarithm = log-examples; power = power-examples; ratio = ratio-examples }
+
+pub loudness : Loudness
+loudness = record { bs1770 = level-bs1770; deque = level-deque; deque-reading = level-deque-reading; fresh = fresh-valid; kept = frame-valid }
+
+pub ducker : DuckerLaws
+ducker = ducker-laws

@@ -1,2 +1,3 @@
 pub mod StandIns
+pub mod Loudness
 pub mod Examples

@@ -1,0 +1,5 @@
+pub mod Lists
+pub mod Bytes
+pub mod Checks
+pub mod Images
+pub mod Single

@@ -1,0 +1,4 @@
+pub mod Order
+pub mod Fits
+pub mod Rust
+pub mod Stretch

@@ -1,0 +1,41 @@
+// Com-IS-Assist's control of the ratio of commentary to bed: three loops, slow, mid and fast, whose reductions add.
+// Readings are those of the dry signals, so that a reduction of 1 dB raises the ratio by 1 LU.
+pub mod engine;
+
+ghost use mathlib.Core.Path.{_≡_};
+ghost use Rattle.comis.specs.Shown.{shownFlag, shownValue};
+
+pub mod envelope;
+pub mod loop_bank;
+pub mod mix_state;
+
+// A loudness at or below this is silence, not a level, LUFS.
+pub const SILENCE_LUFS: f64 = -100.0;
+
+// A reading shown to the operator: silence or a level, LUFS or LU. Also what a loop needs, dB: nothing that could be worked out, or a reduction.
+pub enum Shown {
+    Silence,
+    Level(f64),
+}
+
+impl Shown {
+    // 1 where there is a level, 0 for silence.
+    pub fn flag(self) -> u64
+        ensures { λ r. ⌜ r ≡ shownFlag self ⌝ }
+    {
+        match self {
+            Shown::Silence => 0,
+            Shown::Level(_) => 1,
+        }
+    }
+
+    // The level, 0 for silence.
+    pub fn value(self) -> f64
+        ensures { λ r. ⌜ r ≡ shownValue self ⌝ }
+    {
+        match self {
+            Shown::Silence => 0.0,
+            Shown::Level(x) => x,
+        }
+    }
+}

@@ -1,0 +1,7 @@
+pub mod Finite
+pub mod Sum
+pub mod Deque
+pub mod Filter
+pub mod Squares
+pub mod Bs1770
+pub mod Valid

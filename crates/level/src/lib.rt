@@ -1,0 +1,343 @@
+// A strand's loudness by BS.1770, for each frame of 10 ms: momentary (400 ms), short-term (3 s) and fast (50 ms).
+// Before 400 ms or 3 s of frames the missing ones count as silence.
+ghost use mathlib.Core.Path.{_≡_};
+ghost use mathlib.Core.Bool.{_&&_};
+ghost use lib.ListN.{length};
+ghost use Rattle.level.specs.Finite.{allFinite};
+ghost use Rattle.level.specs.Weighing.{cleanOf, stepOf, runOf};
+ghost use Rattle.level.specs.Level.{
+  joinedOf,
+  zeros,
+  noPowers,
+  pushOf,
+  sumOf,
+  meanOver,
+  meansOf,
+  lufsOf,
+  readOf,
+  startOf,
+  finishOf,
+  freshOf,
+  frameOf,
+};
+use biquad::K_HIGH_PASS;
+use biquad::K_SHELF;
+use biquad::State;
+use float::Lufs;
+
+const MOMENTARY: usize = 40; // frames
+
+const SHORT_TERM: usize = 300; // frames
+
+const FAST_COEFF: f64 = 0.9995833639986813; // exp(-1 / 2400): 50 ms
+
+const WEIGHT: f64 = 1.0; // of the one channel
+
+const OFFSET: f64 = -0.691; // LUFS
+
+const SILENCE_LUFS: f64 = -100.0; // LUFS
+
+// One channel, from sample to sample: its filters, the fast mean square, and the energy of the frame so far.
+pub struct Weighing {
+    pub shelf: State,
+    pub high_pass: State,
+    pub fast: f64,
+    pub energy: f64,
+}
+
+// The sums over the channels, each times its weight: the frame's power, and the fast mean square.
+pub struct Joint {
+    pub power: f64,
+    pub fast: f64,
+}
+
+// The powers of the latest frames, oldest first; the places after them are 0.
+pub struct Powers {
+    pub count: usize,
+    pub list: [f64; 300],
+}
+
+// The mean powers of 400 ms and of 3 s.
+pub struct Means {
+    pub momentary: f64,
+    pub short_term: f64,
+}
+
+// What one frame reads.
+pub struct Reading {
+    pub power: f64, // the frame's weighted mean square
+    pub momentary: Lufs,
+    pub short_term: Lufs,
+    pub fast: Lufs,
+}
+
+// The powers with this frame's, what they read, and whether every number that is stored, answered or handed to the logarithm is finite.
+pub struct Read {
+    pub powers: Powers,
+    pub reading: Reading,
+    pub finite: bool,
+}
+
+// A strand's level: one channel.
+pub struct Level {
+    pub shelf: State,
+    pub high_pass: State,
+    pub fast: f64,
+    pub powers: Powers,
+}
+
+// The level after a frame, what it reads, and whether every number that is stored, answered or handed to the logarithm is finite.
+pub struct Framed {
+    pub level: Level,
+    pub reading: Reading,
+    pub finite: bool,
+}
+
+// Whether both are true.
+fn both(a: bool, b: bool) -> bool
+    ensures { λ r. ⌜ r ≡ a && b ⌝ }
+{
+    if a { b } else { false }
+}
+
+// Whether every number of v is finite.
+pub fn all_finite(v: &[f64]) -> bool
+    ensures { λ r. ⌜ r ≡ allFinite (now (v .entry)) ⌝ }
+{
+    let mut i = 0;
+    while i < v.len() {
+        if float::finite(v[i]) {
+            i += 1;
+        } else {
+            return false;
+        }
+    }
+    true
+}
+
+// A sample as it is heard: 0 in place of one that isn't finite.
+pub fn clean(v: f32) -> f64
+    ensures { λ r. ⌜ r ≡ cleanOf v ⌝ }
+{
+    if float::finite32(v) {
+        return v as f64;
+    }
+    0.0
+}
+
+impl Weighing {
+    // One sample through the shelf and the high-pass.
+    pub fn step(self, x: f64) -> Weighing
+        ensures { λ r. ⌜ r ≡ stepOf self x ⌝ }
+    {
+        let shelf = self.shelf;
+        let high_pass = self.high_pass;
+        let a = shelf.tick(K_SHELF, x);
+        let b = high_pass.tick(K_HIGH_PASS, a.y);
+        let y2 = b.y * b.y;
+        let s = a.state;
+        let h = b.state;
+        Weighing {
+            shelf: s,
+            high_pass: h,
+            fast: self.fast * FAST_COEFF + y2 * (1.0 - FAST_COEFF),
+            energy: self.energy + y2,
+        }
+    }
+
+    // All samples of a frame.
+    pub fn run(mut self, xs: &[f32]) -> Weighing
+        ensures { λ r. ⌜ r ≡ runOf self (now (xs .entry)) ⌝ }
+    {
+        let mut i = 0;
+        while i < xs.len() {
+            let x = clean(xs[i]);
+            self = self.step(x);
+            i += 1;
+        }
+        self
+    }
+}
+
+impl Joint {
+    // One channel more: its weight, and what its frame of n samples came to.
+    pub fn join(self, weight: f64, w: Weighing, n: usize) -> Joint
+        ensures { λ r. ⌜ r ≡ joinedOf self weight w n ⌝ }
+    {
+        let samples = std::num::nearest_u64_to_f64(sequence::most(n, 1) as u64);
+        Joint {
+            power: self.power + weight * w.energy / samples,
+            fast: self.fast + weight * w.fast,
+        }
+    }
+
+    // What follows the filters: the power is stored, and all is read.
+    pub fn read(self, powers: Powers) -> Read
+        ensures { λ r. ⌜ r ≡ readOf self powers ⌝ }
+    {
+        let next = powers.push(self.power);
+        let means = next.means();
+        let momentary = lufs(means.momentary);
+        let short_term = lufs(means.short_term);
+        let fast = lufs(self.fast);
+        let numbers = [
+            self.power,
+            float::max(0.0, means.momentary),
+            float::max(0.0, means.short_term),
+            float::max(0.0, self.fast),
+            momentary.0,
+            short_term.0,
+            fast.0,
+        ];
+        let finite = all_finite(&numbers);
+        Read {
+            powers: next,
+            reading: Reading {
+                power: self.power,
+                momentary,
+                short_term,
+                fast,
+            },
+            finite,
+        }
+    }
+}
+
+fn no_powers() -> [f64; 300]
+    ensures { λ r. ⌜ r ≡ zeros ⌝ }
+{
+    [0.0; 300]
+}
+
+// The sum, and to it at most n of the values that v holds, newest first.
+pub fn sum_newest(from: f64, v: &[f64], count: usize, n: usize) -> f64
+    ensures { λ r. ⌜ r ≡ sumOf from n count (now (v .entry)) ⌝ }
+{
+    let mut c = sequence::least(count, v.len());
+    let mut k = n;
+    let mut sum = from;
+    while 0 < c {
+        if k == 0 {
+            return sum;
+        }
+        c -= 1;
+        k -= 1;
+        sum = sum + v[c];
+    }
+    sum
+}
+
+// The mean of n frames whose powers come to sum, also where there are fewer.
+pub fn mean(sum: f64, n: usize) -> f64
+    ensures { λ r. ⌜ r ≡ meanOver sum n ⌝ }
+{
+    sum / std::num::nearest_u64_to_f64(n as u64)
+}
+
+// LUFS of a weighted mean square, at the silence floor for none.
+pub fn lufs(power: f64) -> Lufs
+    ensures { λ r. ⌜ r ≡ lufsOf power ⌝ }
+{
+    if 0.0 < power {
+        return Lufs(float::max(OFFSET + 10.0 * logarithm::log10(power), SILENCE_LUFS));
+    }
+    Lufs(SILENCE_LUFS)
+}
+
+impl Powers {
+    // No frame yet.
+    pub fn new() -> Self
+        ensures { λ r. ⌜ r ≡ noPowers ⌝ }
+    {
+        let list = no_powers();
+        Self { count: 0, list }
+    }
+
+    // One frame's power more; the oldest of 300 goes.
+    pub fn push(self, power: f64) -> Powers
+        ensures { λ r. ⌜ r ≡ pushOf self power ⌝ }
+    {
+        let mut list = self.list;
+        let count = sequence::push(&mut list, self.count, power);
+        Powers { count, list }
+    }
+
+    // The sum over 40 frames, newest first, is the beginning of that over 300.
+    pub fn means(self) -> Means
+        ensures { λ r. ⌜ r ≡ meansOf self ⌝ }
+    {
+        let list = self.list;
+        let count = sequence::least(self.count, SHORT_TERM);
+        let recent = sum_newest(0.0, &list, count, MOMENTARY);
+        let older = count - sequence::least(count, MOMENTARY);
+        let all = sum_newest(recent, &list, older, SHORT_TERM - MOMENTARY);
+        Means {
+            momentary: mean(recent, MOMENTARY),
+            short_term: mean(all, SHORT_TERM),
+        }
+    }
+}
+
+impl Level {
+    // A level that has heard nothing.
+    pub fn new() -> Self
+        ensures { λ r. ⌜ r ≡ freshOf ⌝ }
+    {
+        let powers = Powers::new();
+        Self {
+            shelf: State::new(),
+            high_pass: State::new(),
+            fast: 0.0,
+            powers,
+        }
+    }
+
+    // The filters as a frame begins.
+    pub fn start(self) -> Weighing
+        ensures { λ r. ⌜ r ≡ startOf self ⌝ }
+    {
+        let shelf = self.shelf;
+        let high_pass = self.high_pass;
+        Weighing {
+            shelf,
+            high_pass,
+            fast: self.fast,
+            energy: 0.0,
+        }
+    }
+
+    // One frame: the filters over its samples, then what follows them.
+    pub fn frame(self, xs: &[f32]) -> Framed
+        ensures { λ r. ⌜ r ≡ frameOf self (now (xs .entry)) ⌝ }
+    {
+        let powers = self.powers;
+        let w = self.start().run(xs);
+        finish(w, powers, xs.len())
+    }
+}
+
+// What follows the filters over a frame of n samples.
+pub fn finish(w: Weighing, powers: Powers, n: usize) -> Framed
+    ensures { λ r. ⌜ r ≡ finishOf w powers n ⌝ }
+{
+    let none = Joint {
+        power: 0.0,
+        fast: 0.0,
+    };
+    let read = none.join(WEIGHT, w, n).read(powers);
+    let shelf = w.shelf;
+    let high_pass = w.high_pass;
+    let stored = [shelf.z1, shelf.z2, high_pass.z1, high_pass.z2, w.fast];
+    let next = read.powers;
+    let reading = read.reading;
+    Framed {
+        level: Level {
+            shelf,
+            high_pass,
+            fast: w.fast,
+            powers: next,
+        },
+        reading,
+        finite: both(all_finite(&stored), read.finite),
+    }
+}

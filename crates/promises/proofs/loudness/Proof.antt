@@ -1,0 +1,10 @@
+-- `promises::loudness` meets its contract. Assumes nothing.
+use Rattle.promises.proofs.Hold.{loudness}
+use Rattle.promises.proofs.loudness.Statement.{statement}
+use Rattle.promises.proofs.loudness.Tie as tie
+
+returns : tie.Need-returns
+returns c = loudness
+
+pub loudness-spec : {M : Type 1} → statement M
+loudness-spec = tie.close (tie.spec returns)
