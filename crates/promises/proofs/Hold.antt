@@ -11,6 +11,7 @@ use Rattle.level.proofs.Valid.{fresh-valid, frame-valid}
 use Rattle.ratio.specs.Laws.{DuckerLaws}
 use Rattle.ratio.proofs.Laws.{ducker-laws}
 use Rattle.ratio.proofs.Examples.{ratio-examples}
+use Rattle.promises.proofs.FastCoeff.{fast-coeff}
 use Rattle.promises.specs.Loudness.{Loudness}
 use Rattle.promises.specs.StandIns.{StandIns}
 use Rattle.promises.specs.Examples.{Examples}
@@ -29,7 +30,7 @@ pub examples : Examples
 examples = record { logarithm = log-examples; power = power-examples; ratio = ratio-examples }
 
 pub loudness : Loudness
-loudness = record { bs1770 = level-bs1770; deque = level-deque; deque-reading = level-deque-reading; fresh = fresh-valid; kept = frame-valid }
+loudness = record { bs1770 = level-bs1770; deque = level-deque; deque-reading = level-deque-reading; fresh = fresh-valid; kept = frame-valid; fast-coefficient = fast-coeff }
 
 pub ducker : DuckerLaws
 ducker = ducker-laws

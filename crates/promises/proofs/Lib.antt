@@ -1,1 +1,2 @@
+pub mod FastCoeff
 pub mod Hold

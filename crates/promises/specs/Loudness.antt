@@ -2,9 +2,12 @@
 use mathlib.Core.Path.{_≡_}
 use mathlib.Core.List.{List}
 use lib.Dec.{T}
-use lib.Ieee.{Float}
+use lib.IntN.{negsuc}
+use lib.Ieee.{Float, binary64, ofInt}
 use lib.ListN.{length}
+use Rattle.power.specs.Power.{expOf}
 use Rattle.level.specs.declared.Level.{Level}
+use Rattle.level.specs.Bs1770.{_⊘_, whole, fastCoeff}
 use Rattle.level.specs.Level.{freshOf, frameOf}
 use Rattle.level.specs.Deque.{meterOf, meterNext, meterReading}
 use Rattle.level.specs.Heard.{ReadsBs1770}
@@ -19,3 +22,5 @@ pub record Loudness : Type 0 where
   -- a fresh level may stand in an image, and so may the level after a frame whose numbers are finite
   pub fresh : Valid freshOf
   pub kept : (l : Level) (xs : List Float) → Valid l → T (frameOf l xs .finite) → Valid (frameOf l xs .level)
+  -- the fast reading's coefficient is exp(-1 / 2400) by the stand-in
+  pub fast-coefficient : fastCoeff ≡ expOf (ofInt binary64 (negsuc 0) ⊘ whole 2400)
