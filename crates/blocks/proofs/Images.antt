@@ -14,8 +14,8 @@ use lib.Dec.{ltb, lit<}
 use Rattle.blocks.specs.Lists.{table, Words, Bytes, laid, Laid}
 use Rattle.blocks.specs.Words.{blockBytes, blockWords, checkedWords, wordAt, bytes8, bytesOf, mixed, checkOf, holds, blocksIn, firstBad}
 use Rattle.blocks.specs.Image.{payloadWord, imageWord, imageOf, payloadOf}
-use Rattle.blocks.proofs.Lists.{length-table, getD-table, table-ext, table-snoc, below-table, none-yet, next, laid-length}
-use Rattle.blocks.proofs.Bytes.{word-at, length-bytes, bytes-snoc, bytes-of-words}
+use Rattle.blocks.proofs.Lists.{length-table, getD-table, table-ext, table-snoc, below-table, none-yet, next, laid-length, laid-all}
+use Rattle.blocks.proofs.Bytes.{word-at, length-bytes, bytes-snoc, bytes-of-words, under8}
 use Rattle.blocks.proofs.Checks.{Checked, checked-none, checked-next, checked-all, check-ext, checkOf-lt, first-none, all-before}
 
 -- ---- the words of an image
@@ -103,6 +103,12 @@ module _ (b : List ℕ) where
   unfolding payloadOf
   payload-is k h = getD-table (λ j. wordAt b (blockWords * (j / checkedWords) + j % checkedWords)) (checkedWords * blocksIn b) k 0 h
 
+  pub payload-words : Bytes b → Words (payloadOf b)
+  unfolding payloadOf
+  payload-words s =
+      below-table (2 ^ 64) (λ k. wordAt b (blockWords * (k / checkedWords) + k % checkedWords)) (checkedWords * blocksIn b) (lit< tt)
+      (λ k h. under8 b s (8 * (blockWords * (k / checkedWords) + k % checkedWords)))
+
   -- word m of block k
   pub payload-at : (k m : ℕ) → k < blocksIn b → m < checkedWords → payloadWord (payloadOf b) k m ≡ wordAt b (blockWords * k + m)
   payload-at k m h l = payload-is (checkedWords * k + m) (omega arith) ∙ ap (wordAt b) (omega arith)
@@ -139,6 +145,20 @@ module _ (b : List ℕ) where
       let q : blocksIn b ≡ n = omega arith in
       ap bytesOf (table-ext (imageWord (payloadOf b)) (wordAt b) (blockWords * n) (λ i h. same-word i (e ∙ sym q) (omega arith)))
       ∙ bytes-of-words b (blockWords * n) s (omega arith)
+
+-- whole blocks that all hold and have one payload are the same
+pub payload-inj : (n : ℕ) (b b′ : List ℕ) → length b ≡ blockBytes * n → length b′ ≡ blockBytes * n → Bytes b → Bytes b′ → firstBad b ≡ n → firstBad b′ ≡ n
+    → payloadOf b ≡ payloadOf b′ → b ≡ b′
+payload-inj n b b′ l l′ s s′ e e′ q = sym (image-of-payload b n l s e) ∙ ap (imageOf n) q ∙ image-of-payload b′ n l′ s′ e′
+
+-- what `write_image` and `payload` leave in a buffer of the right length
+pub image-laid : (n : ℕ) (p b : List ℕ) → length b ≡ blockBytes * n → laid b 0 (imageOf (blocksIn b) p) ≡ imageOf n p
+image-laid n p b l =
+    let q : blocksIn b ≡ n = omega arith in
+    ap (λ (m : ℕ). laid b 0 (imageOf m p)) q ∙ laid-all b (imageOf n p) (l ∙ sym (image-length p n))
+
+pub payload-laid : (b w : List ℕ) → length w ≡ checkedWords * blocksIn b → laid w 0 (payloadOf b) ≡ payloadOf b
+payload-laid b w l = laid-all w (payloadOf b) (l ∙ sym (payload-length b))
 
 -- ---- the loop that writes an image
 

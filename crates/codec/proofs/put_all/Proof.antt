@@ -1,0 +1,65 @@
+-- `codec::put_all` meets its contract: the first k words are laid. Assumes nothing.
+use mathlib.Core.List.{map}
+use Prim.Native.Nat.{_-_, _≤_}
+use native.Mathlib.Omega.{arith}
+use lib.ListN.{length, take}
+use lib.Ieee.{binary64, toBits}
+use Rattle.blocks.specs.Lists.{Laid}
+use Rattle.blocks.proofs.Lists.{none-yet, laid-length}
+use Rattle.codec.proofs.Places.{floats-turn, floats-end}
+use borrow.Author.Needs.{needs}
+use Rattle.codec.proofs.put_all.Statement.{statement}
+use Rattle.codec.proofs.put_all.Tie as tie
+
+abbrev Inv-loop : tie.InvT-loop
+Inv-loop w₀ at v k₀ w k = (k ≤ length v) × Laid w₀ at (take k (map (toBits binary64) v)) w
+
+abbrev μ-loop : tie.MeasureT-loop
+μ-loop w₀ at v k₀ w k = length v - k
+
+loop-holds : tie.Need-loop-holds Inv-loop μ-loop
+loop-holds c = (omega arith, none-yet _ _)
+
+mul-bits64 : tie.Need-mul-bits64 Inv-loop μ-loop
+mul-bits64 c = search needs
+
+shared-slice-read-bits64 : tie.Need-shared-slice-read-bits64 Inv-loop μ-loop
+shared-slice-read-bits64 c = search needs
+
+bits64-requires : tie.Need-bits64-requires Inv-loop μ-loop
+bits64-requires c κs = search needs
+
+store-requires : tie.Need-store-requires Inv-loop μ-loop
+store-requires c κs = search needs
+
+add-k : tie.Need-add-k Inv-loop μ-loop
+add-k c = search needs
+
+loop-less : tie.Need-loop-less Inv-loop μ-loop
+loop-less c = omega arith
+
+loop-again : tie.Need-loop-again Inv-loop μ-loop
+loop-again c = (omega arith, floats-turn (toBits binary64) (c .before .before .before .before .before .before .before .before .before .before .args .v .now) (c .before .before .before .before .before .before .before .loop .inv .1) (c .before .before .before .before .before .before .loop-test .taken) (c .before .before .before .bits64 .ensures) (c .before .before .store .ensures))
+
+same-length : tie.Need-same-length Inv-loop μ-loop
+same-length c = laid-length (c .before .loop .inv .1)
+
+returns : tie.Need-returns Inv-loop μ-loop
+returns c = floats-end (toBits binary64) (c .before .before .before .before .args .v .now) (c .before .loop .inv .1) (c .loop-test .left)
+
+pub put-all-spec : {M : Type 1} → statement M
+put-all-spec =
+    tie.close
+    (tie.spec
+    Inv-loop
+    μ-loop
+    loop-holds
+    mul-bits64
+    shared-slice-read-bits64
+    bits64-requires
+    store-requires
+    add-k
+    loop-less
+    loop-again
+    same-length
+    returns)

@@ -1,0 +1,4 @@
+pub mod Fields
+pub mod Codec
+pub mod Kept
+pub mod Forms

@@ -1,0 +1,237 @@
+// Numbers as words of a slice, and words as numbers. Each function is total: a word without a place is dropped, one that
+// isn't there reads as 0, and a word that breaks a rule is read as some good value.
+ghost use mathlib.Core.Path.{_≡_};
+ghost use mathlib.Core.List.{_∷_, [], map};
+ghost use Prim.Native.Nat.{_+_};
+ghost use lib.Dec.{eqb};
+ghost use lib.ListN.{length, getD, set, replicate};
+ghost use lib.Ieee.{binary32, binary64, toBits};
+ghost use Rattle.blocks.specs.Lists.{Laid, table};
+ghost use Rattle.codec.specs.Fields.{numOf, capped, flagBits};
+ghost use Rattle.codec.specs.Codec.{valueAt};
+ghost use Rattle.codec.specs.Forms.{f64, f32};
+
+const NAN64: u64 = 0x7ff8_0000_0000_0000; // the bits that stand for every NaN
+
+const NAN32: u64 = 0x7fc0_0000;
+
+const SIGN64: u64 = 0x8000_0000_0000_0000;
+
+const SIGN32: u64 = 0x8000_0000;
+
+const INFINITE64: u64 = 0x7ff0_0000_0000_0000; // an infinity's bits below the sign
+
+const INFINITE32: u64 = 0x7f80_0000;
+
+const HALF: u64 = 0x1_0000_0000; // the low half of a word is below it
+
+// ---- writing
+
+// The bits of x.
+pub fn bits64(x: f64) -> u64
+    ensures { λ r. ⌜ r ≡ toBits binary64 x ⌝ }
+{
+    if x != x {
+        return NAN64;
+    }
+    f64::to_bits(x)
+}
+
+// The bits of x, in the low half.
+pub fn bits32(x: f32) -> u64
+    ensures { λ r. ⌜ r ≡ toBits binary32 x ⌝ }
+{
+    if x != x {
+        return NAN32;
+    }
+    f32::to_bits(x) as u64
+}
+
+pub fn flag_bits(b: bool) -> u64
+    ensures { λ r. ⌜ r ≡ flagBits b ⌝ }
+{
+    if b { 1 } else { 0 }
+}
+
+// The word v at place at + k.
+fn store(w: &mut [u64], at: usize, k: usize, v: u64)
+    ensures { λ _. ⌜ now (w .exit) ≡ set (now (w .entry)) (at + k) v ⌝ }
+{
+    let n = w.len();
+    if n <= at {
+        return;
+    }
+    if n - at <= k {
+        return;
+    }
+    w[at + k] = v;
+}
+
+// The word v at place `at`.
+pub fn put(w: &mut [u64], at: usize, v: u64)
+    ensures { λ _. ⌜ Laid (now (w .entry)) at (v ∷ []) (now (w .exit)) ⌝ }
+{
+    if w.len() <= at {
+        return;
+    }
+    w[at] = v;
+}
+
+pub fn put64(w: &mut [u64], at: usize, x: f64)
+    ensures { λ _. ⌜ Laid (now (w .entry)) at (toBits binary64 x ∷ []) (now (w .exit)) ⌝ }
+{
+    put(w, at, bits64(x));
+}
+
+pub fn put_flag(w: &mut [u64], at: usize, b: bool)
+    ensures { λ _. ⌜ Laid (now (w .entry)) at (flagBits b ∷ []) (now (w .exit)) ⌝ }
+{
+    put(w, at, flag_bits(b));
+}
+
+// A list of numbers, from place `at` on.
+pub fn put_all(w: &mut [u64], at: usize, v: &[f64])
+    ensures { λ _. ⌜ Laid (now (w .entry)) at (map (toBits binary64) (now (v .entry))) (now (w .exit)) ⌝ }
+{
+    let mut k: usize = 0;
+    while k < v.len() {
+        store(w, at, k, bits64(v[k]));
+        k += 1;
+    }
+}
+
+pub fn put_all32(w: &mut [u64], at: usize, v: &[f32])
+    ensures { λ _. ⌜ Laid (now (w .entry)) at (map (toBits binary32) (now (v .entry))) (now (w .exit)) ⌝ }
+{
+    let mut k: usize = 0;
+    while k < v.len() {
+        store(w, at, k, bits32(v[k]));
+        k += 1;
+    }
+}
+
+// n zeros, from place `at` on.
+pub fn put_zeros(w: &mut [u64], at: usize, n: usize)
+    ensures { λ _. ⌜ Laid (now (w .entry)) at (replicate n 0) (now (w .exit)) ⌝ }
+{
+    let mut k: usize = 0;
+    while k < n {
+        store(w, at, k, 0);
+        k += 1;
+    }
+}
+
+// ---- reading
+
+// The finite number that a word stands for, or 0.
+pub fn num64(w: u64) -> f64
+    ensures { λ r. ⌜ r ≡ numOf binary64 w ⌝ }
+{
+    if w % SIGN64 < INFINITE64 {
+        f64::from_bits(w)
+    } else {
+        0.0
+    }
+}
+
+// The finite number that the low half of a word stands for, or 0; the high half has to be zero.
+pub fn num32(w: u64) -> f32
+    ensures { λ r. ⌜ r ≡ numOf binary32 w ⌝ }
+{
+    if w < HALF {
+        if w % SIGN32 < INFINITE32 {
+            return f32::from_bits(w as u32);
+        }
+    }
+    0.0
+}
+
+// A number below n, or 0.
+pub fn capped(n: u64, w: u64) -> u64
+    ensures { λ r. ⌜ r ≡ capped n w ⌝ }
+{
+    if w < n { w } else { 0 }
+}
+
+// The word at place at + k.
+fn word(w: &[u64], at: usize, k: usize) -> u64
+    ensures { λ r. ⌜ r ≡ getD (now (w .entry)) (at + k) 0 ⌝ }
+{
+    let n = w.len();
+    if n <= at {
+        return 0;
+    }
+    if n - at <= k {
+        return 0;
+    }
+    w[at + k]
+}
+
+// The word at place `at`.
+pub fn get(w: &[u64], at: usize) -> u64
+    ensures { λ r. ⌜ r ≡ getD (now (w .entry)) at 0 ⌝ }
+{
+    if w.len() <= at {
+        return 0;
+    }
+    w[at]
+}
+
+pub fn get64(w: &[u64], at: usize) -> f64
+    ensures { λ r. ⌜ r ≡ numOf binary64 (getD (now (w .entry)) at 0) ⌝ }
+{
+    num64(get(w, at))
+}
+
+pub fn get_capped(w: &[u64], at: usize, n: u64) -> u64
+    ensures { λ r. ⌜ r ≡ capped n (getD (now (w .entry)) at 0) ⌝ }
+{
+    capped(n, get(w, at))
+}
+
+// Whether the word at place `at` is 1.
+pub fn get_flag(w: &[u64], at: usize) -> bool
+    ensures { λ r. ⌜ r ≡ eqb (getD (now (w .entry)) at 0) 1 ⌝ }
+{
+    get(w, at) == 1
+}
+
+// Number k of the n from place `at` on, and 0 past them.
+fn value64(w: &[u64], at: usize, n: usize, k: usize) -> f64
+    ensures { λ r. ⌜ r ≡ valueAt f64 (now (w .entry)) at n k ⌝ }
+{
+    if k < n {
+        return num64(word(w, at, k));
+    }
+    0.0
+}
+
+fn value32(w: &[u64], at: usize, n: usize, k: usize) -> f32
+    ensures { λ r. ⌜ r ≡ valueAt f32 (now (w .entry)) at n k ⌝ }
+{
+    if k < n {
+        return num32(word(w, at, k));
+    }
+    0.0
+}
+
+// The n numbers from place `at` on in the first places of v, and 0 in the rest.
+pub fn get_all(w: &[u64], at: usize, n: usize, v: &mut [f64])
+    ensures { λ _. ⌜ now (v .exit) ≡ table (valueAt f64 (now (w .entry)) at n) (length (now (v .entry))) ⌝ }
+{
+    let mut k: usize = 0;
+    while k < v.len() {
+        v[k] = value64(w, at, n, k);
+        k += 1;
+    }
+}
+
+pub fn get_all32(w: &[u64], at: usize, n: usize, v: &mut [f32])
+    ensures { λ _. ⌜ now (v .exit) ≡ table (valueAt f32 (now (w .entry)) at n) (length (now (v .entry))) ⌝ }
+{
+    let mut k: usize = 0;
+    while k < v.len() {
+        v[k] = value32(w, at, n, k);
+        k += 1;
+    }
+}

@@ -1,0 +1,46 @@
+-- What a product proves of its functions, call by call. From these laws the demands follow for whole lists.
+use mathlib.Core.Path.{_≡_}
+use mathlib.Core.List.{[]}
+use Rattle.demands.specs.Table.{InTable}
+use Rattle.demands.specs.Calls.{Bytes, event, save, restore, answer, done, refusal, passed, gets, Rules, Images, eventCalls, rulingOf, allCalls, Port, Reference}
+
+module _ (R : Rules) where
+  open Rules R using (State, Event, fresh, refuses, next, answers, Finite)
+
+  -- ---- frames, settings calls and resets
+  pub record EventLaws (port : Port R (eventCalls R)) : Type 1 where
+    -- the states that a chain may have
+    pub Valid : State → Type 0
+    pub finite : (s : State) → Valid s → Finite s
+    pub fresh-valid : Valid fresh
+    pub next-valid : (s : State) (e : Event) → Valid s → refuses s e ≡ 0 → Valid (next s e)
+    -- the numbers are those of the table
+    pub number : (s : State) (e : Event) → Valid s → (refuses s e ≡ 0 → ⊥) → InTable (refuses s e)
+    -- the port: what each call gets, and the chain that it leaves
+    pub refused : (s : State) (e : Event) → Valid s → (refuses s e ≡ 0 → ⊥) → port s e ≡ gets (refusal (refuses s e)) [] s
+    pub passes : (s : State) (e : Event) → Valid s → refuses s e ≡ 0 → port s e ≡ gets (passed (answer (answers s e))) [] (next s e)
+
+  -- ---- with saves and restores
+  module _ (I : Images R) where
+    open Images I using (image, refusesImage, bits)
+
+    pub record Laws (port : Port R (allCalls R I)) : Type 1 where
+      pub events : EventLaws (λ s e. port s (event e))
+      -- the bits of a valid state tell it from any other
+      pub bits-inj : (s t : State) → events .Valid s → events .Valid t → bits s ≡ bits t → s ≡ t
+      -- accepted bytes are a valid state's image
+      pub accepted-image : (b : Bytes) → refusesImage b ≡ 0 → (s : State) × events .Valid s × (image s ≡ b)
+      pub image-number : (b : Bytes) → (refusesImage b ≡ 0 → ⊥) → InTable (refusesImage b)
+      -- the port
+      pub save-refused : (s : State) (l : Bytes) → events .Valid s → (rulingOf R I s (save l) ≡ 0 → ⊥) → port s (save l) ≡ gets (refusal (rulingOf R I s (save l))) l s
+      pub saved : (s : State) (l : Bytes) → events .Valid s → rulingOf R I s (save l) ≡ 0 → port s (save l) ≡ gets (passed done) (image s) s
+      pub restore-refused : (s : State) (b : Bytes) → events .Valid s → (refusesImage b ≡ 0 → ⊥) → port s (restore b) ≡ gets (refusal (refusesImage b)) b s
+      -- (from this and `restore-refused`: a valid state's image is accepted, and two valid states have two images)
+      pub restored : (s t : State) → events .Valid s → events .Valid t → port s (restore (image t)) ≡ gets (passed done) (image t) t
+
+  -- ---- a reference keeps step with the rules, accepted event by accepted event
+  pub record Agrees (Valid : State → Type 0) (M : Reference R) : Type 1 where
+    pub Like : State → M .Model → Type 0
+    pub like-new : Like fresh (M .new)
+    pub like-next : (s : State) (m : M .Model) (e : Event) → Valid s → Like s m → refuses s e ≡ 0 → Like (next s e) (M .feed m e)
+    pub like-says : (s : State) (m : M .Model) (e : Event) → Valid s → Like s m → refuses s e ≡ 0 → M .part (answers s e) ≡ M .says m e

@@ -1,0 +1,5 @@
+pub mod Table
+pub mod Calls
+pub mod Demands
+pub mod Laws
+pub mod Dead
