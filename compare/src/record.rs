@@ -9,21 +9,22 @@ use crate::signals;
 use crate::words::Words;
 use crate::{calls, decision, ducker, lists, numbers, standins};
 
-/// Module, its recorder, and where the repository keeps the file.
-pub const MODULES: [(&str, fn() -> Vec<u8>, &str); 8] = [
-    ("numbers", numbers::record, "crates/recorded_numbers/stdin"),
-    ("filter", filter, "crates/recorded_filter/stdin"),
-    ("level", level, "crates/recorded_level/stdin"),
-    ("detector", detector, "crates/recorded_detector/stdin"),
-    (
-        "decision",
-        decision::record,
-        "crates/recorded_decision/stdin",
-    ),
-    ("ducker", ducker::record, "crates/recorded_ducker/stdin"),
-    ("frames", frames, "crates/recorded_frames/stdin"),
-    ("images", images, "crates/recorded_images/stdin"),
+/// Module and its recorder.
+pub const MODULES: [(&str, fn() -> Vec<u8>); 8] = [
+    ("numbers", numbers::record),
+    ("filter", filter),
+    ("level", level),
+    ("detector", detector),
+    ("decision", decision::record),
+    ("ducker", ducker::record),
+    ("frames", frames),
+    ("images", images),
 ];
+
+/// Where the repository keeps a module's file.
+pub fn path(module: &str) -> String {
+    format!("crates/recorded/data/{module}")
+}
 
 /// Per set and signal: set, signal, seed, scale's bits, count, then `count` outputs
 /// and the state's z1 and z2 at the end.
@@ -138,8 +139,8 @@ fn images() -> Vec<u8> {
 pub fn module(name: &str) -> Option<Vec<u8>> {
     MODULES
         .iter()
-        .find(|(n, ..)| *n == name)
-        .map(|(_, record, _)| record())
+        .find(|(n, _)| *n == name)
+        .map(|(_, record)| record())
 }
 
 /// Random lists of calls with every answer, for a port's `replay`.

@@ -85,7 +85,7 @@ fn main() -> ExitCode {
         ["paths"] => {
             record::MODULES
                 .iter()
-                .for_each(|(name, _, path)| println!("{name} {path}"));
+                .for_each(|(name, _)| println!("{name} {}", record::path(name)));
             Ok(())
         }
         _ => Err(format!("usage:\n{HELP}")),

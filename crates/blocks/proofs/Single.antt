@@ -46,10 +46,6 @@ module _ (k : ℕ) (b b′ : List ℕ) (c : OneWord k b b′) where
       ∙ eqb-true _ _ t
       ∙ sym (f checkedWords (omega arith)))
 
-  -- a word of block j other than word k is as it was
-  rest : (j m : ℕ) → (blockWords * j + m ≡ k → ⊥) → wordAt b′ (blockWords * j + m) ≡ wordAt b (blockWords * j + m)
-  rest j m q = other (blockWords * j + m) q
-
   -- the block of word k does not: its check fails for one of the 63 words, or is itself another
   there : (j m : ℕ) → m < blockWords → blockWords * j + m ≡ k → holds b j ≡ true → holds b′ j ≡ false
   unfolding holds
@@ -61,19 +57,20 @@ module _ (k : ℕ) (b b′ : List ℕ) (c : OneWord k b b′) where
             (sym (ap (wordAt b′) d)
             ∙ one-word j (λ i. wordAt b′ (blockWords * j + i)) (λ i. wordAt b (blockWords * j + i)) m h
             (under8 b′ (c .bytes′) (8 * (blockWords * j + m))) (under8 b (c .bytes) (8 * (blockWords * j + m)))
-            (λ i g q. rest j i (λ z. q (omega arith)))
-            (e ∙ rest j checkedWords (λ z. omega arith) ∙ sym (eqb-true _ _ t))
+            (λ i g q. other (blockWords * j + i) (λ z. q (omega arith)))
+            (e ∙ other (blockWords * j + checkedWords) (λ z. omega arith) ∙ sym (eqb-true _ _ t))
             ∙ ap (wordAt b) d)
         | no h ↦
             let q : blockWords * j + checkedWords ≡ k = omega arith in
             unlike
             (sym (ap (wordAt b′) q)
             ∙ sym e
-            ∙ check-ext j (λ i. wordAt b′ (blockWords * j + i)) (λ i. wordAt b (blockWords * j + i)) (λ i g. rest j i (λ z. omega arith))
+            ∙ check-ext j (λ i. wordAt b′ (blockWords * j + i)) (λ i. wordAt b (blockWords * j + i)) (λ i g. other (blockWords * j + i) (λ z. omega arith))
             ∙ eqb-true _ _ t
             ∙ ap (wordAt b) q)
       ])
 
+  -- of whole blocks that all hold, the block of the changed word is the first bad one
   pub one-word-caught : (n : ℕ) → length b ≡ blockBytes * n → firstBad b ≡ n → firstBad b′ ≡ k / blockWords
   unfolding firstBad
   one-word-caught n l e =

@@ -1,13 +1,13 @@
-// Com-IS-Assist's control of the ratio of commentary to bed: three loops, slow, mid and fast, whose reductions add.
+// The control of the ratio of commentary (COM) to bed (IS), after Com-IS-Assist by Andreas Weiss (MIT): three loops, slow, mid and fast,
+// whose reductions add.
 // Readings are those of the dry signals, so that a reduction of 1 dB raises the ratio by 1 LU.
 pub mod engine;
-
-ghost use mathlib.Core.Path.{_≡_};
-ghost use Rattle.comis.specs.Shown.{shownFlag, shownValue};
-
 pub mod envelope;
 pub mod loop_bank;
 pub mod mix_state;
+
+ghost use mathlib.Core.Path.{_≡_};
+ghost use Rattle.comis.specs.Shown.{shownFlag, shownValue};
 
 // A loudness at or below this is silence, not a level, LUFS.
 pub const SILENCE_LUFS: f64 = -100.0;

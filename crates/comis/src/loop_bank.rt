@@ -65,7 +65,7 @@ pub struct LoopContributions {
     pub total_db: Db,
 }
 
-// How much the release is stretched: 60 where ducking has just stopped, down to 1 when the hold is used up. Only a plain release is stretched.
+// How much a release is stretched: 60 times where the hold is full, down to once where it is used up. Only a plain release is.
 fn release_stretch(hold_remaining_seconds: f64, state: MixState) -> f64
     ensures { λ r. ⌜ r ≡ releaseStretch «hold_remaining_seconds» state ⌝ }
 {

@@ -64,7 +64,8 @@ tickOf loops d i = processTick (configOf d) loops (snapshotOf i) (i .«key_voice
 abbrev pub fastOf : Duck → Inputs → AutomixResult → Updated
 fastOf d i t = processFast (configOf d) (t .updated .loops) (t .state) (i .«bed_fast») (i .«dialogue_short_term») frameSeconds
 
--- `finite` reads what was handed to the powers, what is stored, and what is answered
+-- `finite` reads what was handed to e ^ x, what is stored, and what is answered. What is handed to 60 ^ u is finite where the hold that is stored
+-- is (`remaining-finite`).
 unfoldable pub enabledFrame : Loops → Duck → Inputs → Framed
 enabledFrame l d i =
     let t = tickOf l d i in

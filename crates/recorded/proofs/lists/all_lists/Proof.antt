@@ -1,0 +1,49 @@
+-- `lists::all_lists` is safe and ends. The measure is the number of turns that are left.
+use borrow.Author.Needs.{needs}
+use Rattle.recorded.proofs.lists.all_lists.Statement.{statement}
+use Rattle.recorded.proofs.lists.all_lists.Tie as tie
+
+abbrev Inv-loop : tie.InvT-loop
+Inv-loop «module» name buffer₀ r₀ turns₀ buffer r turns = Unit {0}
+
+abbrev μ-loop : tie.MeasureT-loop
+μ-loop «module» name buffer₀ r₀ turns₀ buffer r turns = turns
+
+open-requires : tie.Need-open-requires Inv-loop μ-loop
+open-requires c κs = search needs
+
+loop-holds : tie.Need-loop-holds Inv-loop μ-loop
+loop-holds c = search needs
+
+next-list-requires : tie.Need-next-list-requires Inv-loop μ-loop
+next-list-requires c κs = search needs
+
+returns : tie.Need-returns Inv-loop μ-loop
+returns c = search needs
+
+sub-turns : tie.Need-sub-turns Inv-loop μ-loop
+sub-turns c = search needs
+
+loop-less : tie.Need-loop-less Inv-loop μ-loop
+loop-less c = search needs
+
+loop-again : tie.Need-loop-again Inv-loop μ-loop
+loop-again c = search needs
+
+returns-2 : tie.Need-returns-2 Inv-loop μ-loop
+returns-2 c = search needs
+
+pub all-lists-spec : {M : Type 1} → statement M
+all-lists-spec =
+    tie.close
+    (tie.spec
+    Inv-loop
+    μ-loop
+    open-requires
+    loop-holds
+    next-list-requires
+    returns
+    sub-turns
+    loop-less
+    loop-again
+    returns-2)

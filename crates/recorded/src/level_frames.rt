@@ -1,0 +1,62 @@
+// The level against the recorded readings. A list: signal (3 words), count of frames; then power, momentary, short_term and fast of
+// the frames that are shown.
+use super::bits;
+use super::input::BUFFER;
+use super::replay::Replay;
+use super::signal;
+use super::signal::Signal;
+use level::Level;
+use level::Reading;
+
+fn words(r: Reading) -> [u64; 4] {
+    [
+        bits::of(r.power),
+        bits::of(r.momentary.0),
+        bits::of(r.short_term.0),
+        bits::of(r.fast.0),
+    ]
+}
+
+// The reading of frame i, compared where it is recorded.
+fn compare(r: Replay, name: &[u8], buffer: &mut [u8; BUFFER], i: u64, reading: Reading) -> Replay {
+    if signal::shown(i) {
+        return r.compare(name, buffer, i, &words(reading));
+    }
+    r
+}
+
+// A list's readings, from a level that has heard nothing.
+fn play(mut r: Replay, name: &[u8], buffer: &mut [u8; BUFFER], s: Signal, count: u64) -> Replay {
+    let mut level = Level::new();
+    let mut first = 0;
+    let mut i = 0;
+    while i < count {
+        let x = s.frame(first);
+        let f = level.frame(&x);
+        let reading = f.reading;
+        r = compare(r, name, buffer, i, reading);
+        if r.input.ended {
+            return r;
+        }
+        let next = f.level;
+        level = next;
+        first = std::num::wrapping_add_u64(first, 480);
+        i += 1;
+    }
+    r
+}
+
+pub fn list(before: Replay, name: &[u8], buffer: &mut [u8; BUFFER]) -> Replay {
+    let mut head = [0u64; 4];
+    let r = before.list(buffer, &mut head);
+    if r.input.ended {
+        return r;
+    }
+    play(
+        r,
+        name,
+        buffer,
+        Signal::new(head[0], head[1], head[2]),
+        head[3],
+    )
+}

@@ -1,0 +1,18 @@
+// Replays what the Rust answered, as compare/record wrote it to data/, through the port, and says how many answers differ by their bits.
+mod bits;
+mod filter;
+mod input;
+mod level_frames;
+mod lists;
+mod numbers;
+mod print;
+mod replay;
+mod signal;
+
+use lists::Module;
+
+fn main() {
+    numbers::replay(b"numbers");
+    lists::replay(Module::Filter, b"filter", b" signals, ", b" outputs, ");
+    lists::replay(Module::Level, b"level", b" signals, ", b" readings, ");
+}
