@@ -8,11 +8,16 @@ use Rattle.root.proofs.Nearest.{sqrt-nearest, nearest-is}
 use Rattle.level.proofs.Bs1770.{level-bs1770}
 use Rattle.level.proofs.Deque.{level-deque, level-deque-reading}
 use Rattle.level.proofs.Valid.{fresh-valid, frame-valid}
+use Rattle.detector.proofs.Examples.{smoothstep-examples}
+use Rattle.vad.proofs.Examples.{hold-examples}
+use Rattle.vad.proofs.Rust.{strand-agrees, strand-answers}
+use Rattle.vad.proofs.Valid as strand
 use Rattle.ratio.specs.Laws.{DuckerLaws}
 use Rattle.ratio.proofs.Laws.{ducker-laws}
 use Rattle.ratio.proofs.Examples.{ratio-examples}
 use Rattle.promises.proofs.FastCoeff.{fast-coeff}
 use Rattle.promises.specs.Loudness.{Loudness}
+use Rattle.promises.specs.Voice.{Voice}
 use Rattle.promises.specs.StandIns.{StandIns}
 use Rattle.promises.specs.Examples.{Examples}
 
@@ -27,10 +32,13 @@ stand-ins = record {
 }
 
 pub examples : Examples
-examples = record { logarithm = log-examples; power = power-examples; ratio = ratio-examples }
+examples = record { logarithm = log-examples; power = power-examples; smoothstep = smoothstep-examples; ratio = ratio-examples; hold = hold-examples }
 
 pub loudness : Loudness
 loudness = record { bs1770 = level-bs1770; deque = level-deque; deque-reading = level-deque-reading; fresh = fresh-valid; kept = frame-valid; fast-coefficient = fast-coeff }
 
 pub ducker : DuckerLaws
 ducker = ducker-laws
+
+pub voice : Voice
+voice = record { agrees = strand-agrees; answers = strand-answers; fresh = strand.fresh-valid; reset = strand.reset-valid }

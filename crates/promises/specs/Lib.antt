@@ -1,3 +1,4 @@
 pub mod StandIns
 pub mod Loudness
+pub mod Voice
 pub mod Examples

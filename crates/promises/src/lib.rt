@@ -1,6 +1,7 @@
 // What is promised of the crates together. The functions do nothing: their contracts hold the laws, so that the laws are part of the verdict.
 ghost use Rattle.promises.specs.StandIns.{StandIns};
 ghost use Rattle.promises.specs.Loudness.{Loudness};
+ghost use Rattle.promises.specs.Voice.{Voice};
 ghost use Rattle.ratio.specs.Laws.{DuckerLaws};
 ghost use Rattle.promises.specs.Examples.{Examples};
 
@@ -12,6 +13,11 @@ pub fn stand_ins()
 // The level reads what BS.1770 defines, and keeps what the Rust keeps.
 pub fn loudness()
     ensures { λ _. ⌜ Loudness ⌝ }
+{}
+
+// A strand answers as the Rust does.
+pub fn voice()
+    ensures { λ _. ⌜ Voice ⌝ }
 {}
 
 // The ducker answers as the Rust does, within its bounds.

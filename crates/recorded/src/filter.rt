@@ -32,7 +32,7 @@ fn play(
     let mut i = 0;
     while i < count {
         let t = state.tick(c, std::num::f32_to_f64_with_nan(s.sample(i)));
-        r = r.compare(name, buffer, i, &[bits::of(t.y)]);
+        r = r.answer(name, buffer, i, &[bits::of(t.y)]);
         if r.input.ended {
             return r;
         }
@@ -40,7 +40,7 @@ fn play(
         state = next;
         i += 1;
     }
-    r.compare(
+    r.answer(
         name,
         buffer,
         count,

@@ -17,14 +17,6 @@ fn words(r: Reading) -> [u64; 4] {
     ]
 }
 
-// The reading of frame i, compared where it is recorded.
-fn compare(r: Replay, name: &[u8], buffer: &mut [u8; BUFFER], i: u64, reading: Reading) -> Replay {
-    if signal::shown(i) {
-        return r.compare(name, buffer, i, &words(reading));
-    }
-    r
-}
-
 // A list's readings, from a level that has heard nothing.
 fn play(mut r: Replay, name: &[u8], buffer: &mut [u8; BUFFER], s: Signal, count: u64) -> Replay {
     let mut level = Level::new();
@@ -34,13 +26,13 @@ fn play(mut r: Replay, name: &[u8], buffer: &mut [u8; BUFFER], s: Signal, count:
         let x = s.frame(first);
         let f = level.frame(&x);
         let reading = f.reading;
-        r = compare(r, name, buffer, i, reading);
+        r = signal::compare(r, name, buffer, i, &words(reading), f.finite);
         if r.input.ended {
             return r;
         }
         let next = f.level;
         level = next;
-        first = std::num::wrapping_add_u64(first, 480);
+        first = signal::next_frame(first);
         i += 1;
     }
     r

@@ -1,5 +1,6 @@
 // The modules whose recorded files are lists of answers, each list from a fresh state.
-
+use super::detector_frames;
+use super::ducker;
 use super::filter;
 use super::input::BUFFER;
 use super::level_frames;
@@ -9,6 +10,8 @@ use super::replay::Replay;
 pub enum Module {
     Filter,
     Level,
+    Detector,
+    Ducker,
 }
 
 // The module's next list, where there is one.
@@ -16,6 +19,8 @@ fn next_list(module: Module, r: Replay, name: &[u8], buffer: &mut [u8; BUFFER]) 
     match module {
         Module::Filter => filter::list(r, name, buffer),
         Module::Level => level_frames::list(r, name, buffer),
+        Module::Detector => detector_frames::list(r, name, buffer),
+        Module::Ducker => ducker::list(r, name, buffer),
     }
 }
 

@@ -12,18 +12,17 @@ pub struct Replay {
     lists: u64,
     answers: u64,
     differ: u64,
+    word: u64, // how many words of the present answer were compared
+    wrong: u64, // 1 where one of them differs, else 0
 }
 
-// A line for a word that differs. Lists, places and words are counted from 0.
-fn print_word(name: &[u8], list: u64, place: u64, word: u64, recorded: u64, computed: u64) {
+// The beginning of a line on a difference. Lists and places are counted from 0.
+fn print_place(name: &[u8], list: u64, place: u64) {
     print::text(name);
     print::text(b": list ");
     print::number(list);
     print::text(b", place ");
     print::number(place);
-    print::text(b", word ");
-    print::number(word);
-    print::difference(recorded, computed);
 }
 
 pub fn open(name: &[u8], buffer: &mut [u8; BUFFER]) -> Replay {
@@ -32,43 +31,34 @@ pub fn open(name: &[u8], buffer: &mut [u8; BUFFER]) -> Replay {
         lists: 0,
         answers: 0,
         differ: 0,
+        word: 0,
+        wrong: 0,
     }
 }
 
 impl Replay {
     // The words that the next list begins with, where there is one.
-    pub fn list(self, buffer: &mut [u8; BUFFER], to: &mut [u64]) -> Replay {
+    pub fn list(mut self, buffer: &mut [u8; BUFFER], to: &mut [u64]) -> Replay {
         let before = self.input;
         let input = before.first_words(buffer, to);
+        self.input = input;
         if input.ended {
-            return Replay {
-                input,
-                lists: self.lists,
-                answers: self.answers,
-                differ: self.differ,
-            };
+            return self;
         }
-        Replay {
-            input,
-            lists: std::num::wrapping_add_u64(self.lists, 1),
-            answers: self.answers,
-            differ: self.differ,
-        }
+        self.lists = std::num::wrapping_add_u64(self.lists, 1);
+        self
     }
 
     // The next words of the list.
-    pub fn words(self, buffer: &mut [u8; BUFFER], to: &mut [u64]) -> Replay {
+    pub fn words(mut self, buffer: &mut [u8; BUFFER], to: &mut [u64]) -> Replay {
         let before = self.input;
-        Replay {
-            input: before.words(buffer, to),
-            lists: self.lists,
-            answers: self.answers,
-            differ: self.differ,
-        }
+        let input = before.words(buffer, to);
+        self.input = input;
+        self
     }
 
-    // 1 where a word of the answer is another than the recorded one, which is shown; else 0.
-    fn off(self, name: &[u8], place: u64, word: usize, recorded: Got, computed: u64) -> u64 {
+    // 1 where the recorded word is another than the computed one, which is shown; else 0.
+    fn off(self, name: &[u8], place: u64, recorded: Got, computed: u64) -> u64 {
         if recorded.input.ended {
             return 0;
         }
@@ -76,49 +66,80 @@ impl Replay {
             return 0;
         }
         if self.differ < SHOWN {
-            let list = std::num::wrapping_sub_u64(self.lists, 1);
-            print_word(name, list, place, word as u64, recorded.word, computed);
+            print_place(name, std::num::wrapping_sub_u64(self.lists, 1), place);
+            print::text(b", word ");
+            print::number(self.word);
+            print::difference(recorded.word, computed);
         }
         1
     }
 
-    // One answer more; wrong is 1 where it differs. What the file lacks doesn't count.
-    fn compared(self, input: Input, wrong: u64) -> Replay {
-        if input.ended {
-            return Replay {
-                input,
-                lists: self.lists,
-                answers: self.answers,
-                differ: self.differ,
-            };
-        }
-        Replay {
-            input,
-            lists: self.lists,
-            answers: std::num::wrapping_add_u64(self.answers, 1),
-            differ: std::num::wrapping_add_u64(self.differ, wrong),
-        }
+    fn compare_word(
+        mut self,
+        name: &[u8],
+        buffer: &mut [u8; BUFFER],
+        place: u64,
+        computed: u64,
+    ) -> Replay {
+        let before = self.input;
+        let got = before.word(buffer);
+        self.wrong = self.wrong | self.off(name, place, got, computed);
+        self.word = std::num::wrapping_add_u64(self.word, 1);
+        let input = got.input;
+        self.input = input;
+        self
     }
 
-    // Compares the list's next words with those of an answer. The place is shown where they differ.
+    // Compares the list's next words with those of a part of an answer. The place is shown where they differ.
     pub fn compare(
+        mut self,
+        name: &[u8],
+        buffer: &mut [u8; BUFFER],
+        place: u64,
+        words: &[u64],
+    ) -> Replay {
+        let mut k = 0;
+        while k < words.len() {
+            self = self.compare_word(name, buffer, place, words[k]);
+            k += 1;
+        }
+        self
+    }
+
+    // The Rust accepted each recorded frame, so one that runs away differs.
+    pub fn accept(mut self, name: &[u8], place: u64, finite: bool) -> Replay {
+        if finite {
+            return self;
+        }
+        if self.differ < SHOWN {
+            print_place(name, std::num::wrapping_sub_u64(self.lists, 1), place);
+            print::text(b": runs away\n");
+        }
+        self.wrong = 1;
+        self
+    }
+
+    // The answer is whole. Where the file ended within it, it doesn't count.
+    pub fn count(mut self) -> Replay {
+        if self.input.ended {
+            return self;
+        }
+        self.answers = std::num::wrapping_add_u64(self.answers, 1);
+        self.differ = std::num::wrapping_add_u64(self.differ, self.wrong);
+        self.word = 0;
+        self.wrong = 0;
+        self
+    }
+
+    // Compares the list's next words with those of a whole answer.
+    pub fn answer(
         self,
         name: &[u8],
         buffer: &mut [u8; BUFFER],
         place: u64,
-        answer: &[u64],
+        words: &[u64],
     ) -> Replay {
-        let mut input = self.input;
-        let mut wrong = 0;
-        let mut k = 0;
-        while k < answer.len() {
-            let got = input.word(buffer);
-            wrong = wrong | self.off(name, place, k, got, answer[k]);
-            let next = got.input;
-            input = next;
-            k += 1;
-        }
-        self.compared(input, wrong)
+        self.compare(name, buffer, place, words).count()
     }
 
     // Closes the file and says what its lists and its answers came to.

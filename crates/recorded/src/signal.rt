@@ -1,5 +1,7 @@
 // The signals of the recorded files, frame by frame.
 use super::bits;
+use super::input::BUFFER;
+use super::replay::Replay;
 
 // Samples of a frame.
 const FRAME: usize = 480;
@@ -12,8 +14,29 @@ pub struct Signal {
 }
 
 // Whether frame i is among those recorded: the first 50, then one in ten.
-pub fn shown(i: u64) -> bool {
+fn shown(i: u64) -> bool {
     (i < 50) | (i % 10 == 0)
+}
+
+// Compares the answer of frame i, where it is recorded.
+pub fn compare(
+    r: Replay,
+    name: &[u8],
+    buffer: &mut [u8; BUFFER],
+    i: u64,
+    words: &[u64],
+    finite: bool,
+) -> Replay {
+    if shown(i) {
+        let compared = r.compare(name, buffer, i, words);
+        return compared.accept(name, i, finite).count();
+    }
+    r
+}
+
+// The first sample of the frame after the one that begins at sample `first`.
+pub fn next_frame(first: u64) -> u64 {
+    std::num::wrapping_add_u64(first, FRAME as u64)
 }
 
 impl Signal {

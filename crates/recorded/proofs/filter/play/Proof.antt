@@ -28,11 +28,11 @@ tick-requires c κs = search needs
 of-requires : tie.Need-of-requires Inv-loop μ-loop
 of-requires c κs = search needs
 
-slice-aggregate-compare : tie.Need-slice-aggregate-compare Inv-loop μ-loop
-slice-aggregate-compare c = search needs
+slice-aggregate-answer : tie.Need-slice-aggregate-answer Inv-loop μ-loop
+slice-aggregate-answer c = search needs
 
-compare-requires : tie.Need-compare-requires Inv-loop μ-loop
-compare-requires c κs = search needs
+answer-requires : tie.Need-answer-requires Inv-loop μ-loop
+answer-requires c κs = search needs
 
 returns : tie.Need-returns Inv-loop μ-loop
 returns c = search needs
@@ -52,11 +52,11 @@ of-requires-2 c κs = search needs
 of-requires-3 : tie.Need-of-requires-3 Inv-loop μ-loop
 of-requires-3 c κs = search needs
 
-slice-aggregate-compare-2 : tie.Need-slice-aggregate-compare-2 Inv-loop μ-loop
-slice-aggregate-compare-2 c = search needs
+slice-aggregate-answer-2 : tie.Need-slice-aggregate-answer-2 Inv-loop μ-loop
+slice-aggregate-answer-2 c = search needs
 
-compare-requires-2 : tie.Need-compare-requires-2 Inv-loop μ-loop
-compare-requires-2 c κs = search needs
+answer-requires-2 : tie.Need-answer-requires-2 Inv-loop μ-loop
+answer-requires-2 c κs = search needs
 
 returns-2 : tie.Need-returns-2 Inv-loop μ-loop
 returns-2 c = search needs
@@ -73,14 +73,14 @@ play-spec =
     f32-to-f64-with-nan-requires
     tick-requires
     of-requires
-    slice-aggregate-compare
-    compare-requires
+    slice-aggregate-answer
+    answer-requires
     returns
     add-i
     loop-less
     loop-again
     of-requires-2
     of-requires-3
-    slice-aggregate-compare-2
-    compare-requires-2
+    slice-aggregate-answer-2
+    answer-requires-2
     returns-2)

@@ -26,17 +26,25 @@ slice-aggregate-frame c = search needs
 frame-requires-2 : tie.Need-frame-requires-2 Inv-loop μ-loop
 frame-requires-2 c κs = search needs
 
+words-requires : tie.Need-words-requires Inv-loop μ-loop
+words-requires c κs = search needs
+
+slice-aggregate-compare : tie.Need-slice-aggregate-compare Inv-loop μ-loop
+slice-aggregate-compare c = search needs
+
 compare-requires : tie.Need-compare-requires Inv-loop μ-loop
 compare-requires c κs = search needs
 
 returns : tie.Need-returns Inv-loop μ-loop
 returns c = search needs
 
-wrapping-add-u64-requires : tie.Need-wrapping-add-u64-requires Inv-loop μ-loop
-wrapping-add-u64-requires c κs = search needs
+next-frame-requires : tie.Need-next-frame-requires Inv-loop μ-loop
+next-frame-requires c κs = search needs
 
 add-i : tie.Need-add-i Inv-loop μ-loop
-add-i c = omega (arith, c .before .before .before .before .before .before .before .before .before .loop-test .taken, c .before .before .before .before .before .before .before .before .before .before .loop .inv .1)
+add-i c =
+    let on = c .before .before .before .before .before .before .before .before .before .before .before in
+    omega (arith, on .loop-test .taken, on .before .loop .inv .1)
 
 loop-less : tie.Need-loop-less Inv-loop μ-loop
 loop-less c = search needs
@@ -58,9 +66,11 @@ play-spec =
     frame-requires
     slice-aggregate-frame
     frame-requires-2
+    words-requires
+    slice-aggregate-compare
     compare-requires
     returns
-    wrapping-add-u64-requires
+    next-frame-requires
     add-i
     loop-less
     loop-again

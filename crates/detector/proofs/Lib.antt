@@ -1,0 +1,12 @@
+pub mod Held
+pub mod Lay
+pub mod Room
+pub mod Outputs
+pub mod Decimation
+pub mod Lagged
+pub mod Scanned
+pub mod Finished
+pub mod Told
+pub mod Examples
+pub mod Rust
+pub mod Valid

@@ -1,0 +1,10 @@
+pub mod Steps
+pub mod Filters
+pub mod Floor
+pub mod Modulation
+pub mod Voicing
+pub mod Detector
+pub mod Examples
+pub mod Rust
+pub mod Agrees
+pub mod Valid

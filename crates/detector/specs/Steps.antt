@@ -1,0 +1,29 @@
+-- The Rust's `smoothstep` and `db`.
+use mathlib.Core.Bool.{cond}
+use lib.Ieee.{Float, binary64, lt, ofBits}
+use Rattle.float.specs.Choice.{maxOf, clampOf}
+use Rattle.logarithm.specs.Logarithm.{log10Of}
+use Rattle.level.specs.Bs1770.{_⊖_, _⊗_, _⊘_, zero64, one64}
+
+abbrev pub two64 : Float
+two64 = ofBits binary64 0x4000000000000000
+
+abbrev pub three64 : Float
+three64 = ofBits binary64 0x4008000000000000
+
+abbrev pub ten64 : Float
+ten64 = ofBits binary64 0x4024000000000000
+
+abbrev pub smooth : Float → Float
+smooth t = t ⊗ t ⊗ (three64 ⊖ two64 ⊗ t)
+
+-- 0 up to lo, 1 from hi on, and smooth between
+unfoldable pub smoothstepOf : Float → Float → Float → Float
+smoothstepOf x lo hi = smooth (clampOf ((x ⊖ lo) ⊘ (hi ⊖ lo)) zero64 one64)
+
+-- below this a power counts as this, dB
+abbrev pub silenceDb : Float
+silenceDb = ofBits binary64 0xc05e000000000000
+
+unfoldable pub dbOf : Float → Float
+dbOf power = cond (lt zero64 power) (maxOf (ten64 ⊗ log10Of power) silenceDb) silenceDb

@@ -1,0 +1,122 @@
+// The ratio duck against the recorded answers. A list: count of frames; then for each frame the duck's 6 settings and 6 inputs, the 13
+// words of the answer and the 4 loops after it.
+use super::bits;
+use super::input::BUFFER;
+use super::replay::Replay;
+use comis::loop_bank::Loops;
+use float::Db;
+use float::Lufs;
+use ratio::Duck;
+use ratio::Inputs;
+use ratio::RatioStatus;
+
+// The settings and inputs of a frame.
+const GIVEN: usize = 12;
+
+// What has been compared, and the loops for the next frame.
+struct Stepped {
+    r: Replay,
+    loops: Loops,
+}
+
+fn settings(w: &[u64; GIVEN]) -> Duck {
+    Duck {
+        enabled: w[0] == 1,
+        target_lu: bits::value(w[1]),
+        overvoice_lu: bits::value(w[2]),
+        max_reduction_db: bits::value(w[3]),
+        speed: bits::value(w[4]),
+        bed_voice: w[5] == 1,
+    }
+}
+
+fn inputs(w: &[u64; GIVEN]) -> Inputs {
+    Inputs {
+        key_voice: w[6] == 1,
+        target_voice: w[7] == 1,
+        dialogue_short_term: Lufs(bits::value(w[8])),
+        bed_short_term: Lufs(bits::value(w[9])),
+        bed_momentary: Lufs(bits::value(w[10])),
+        bed_fast: Lufs(bits::value(w[11])),
+    }
+}
+
+// State, unrounded reduction, reduction, slow, mid, fast, target; ratio, dialogue and bed each as flag and value.
+pub fn answer(reduction: Db, s: RatioStatus) -> [u64; 13] {
+    let state = s.state;
+    let ratio_lu = s.ratio_lu;
+    let dialogue_lufs = s.dialogue_lufs;
+    let bed_lufs = s.bed_lufs;
+    [
+        state.number(),
+        bits::of(reduction.0),
+        bits::of(s.reduction_db.0),
+        bits::of(s.slow_db.0),
+        bits::of(s.mid_db.0),
+        bits::of(s.fast_db.0),
+        bits::of(s.target_lu),
+        ratio_lu.flag(),
+        bits::of(ratio_lu.value()),
+        dialogue_lufs.flag(),
+        bits::of(dialogue_lufs.value()),
+        bed_lufs.flag(),
+        bits::of(bed_lufs.value()),
+    ]
+}
+
+fn stored(l: Loops) -> [u64; 4] {
+    [
+        bits::of(l.slow),
+        bits::of(l.mid),
+        bits::of(l.fast),
+        bits::of(l.hold_remaining_seconds),
+    ]
+}
+
+// Frame i of a list.
+fn step(before: Replay, name: &[u8], buffer: &mut [u8; BUFFER], i: u64, loops: Loops) -> Stepped {
+    let mut w = [0u64; GIVEN];
+    let given = before.words(buffer, &mut w);
+    let f = ratio::frame(loops, settings(&w), inputs(&w));
+    let reduction = f.reduction;
+    let status = f.status;
+    let next = f.loops;
+    let answered = given.compare(name, buffer, i, &answer(reduction, status));
+    let r = answered.compare(name, buffer, i, &stored(next));
+    Stepped {
+        r: r.accept(name, i, f.finite).count(),
+        loops: next,
+    }
+}
+
+// A list's frames, from loops at 0.
+fn play(mut r: Replay, name: &[u8], buffer: &mut [u8; BUFFER], count: u64) -> Replay {
+    let mut loops = Loops {
+        slow: 0.0,
+        mid: 0.0,
+        fast: 0.0,
+        hold_remaining_seconds: 0.0,
+    };
+    let mut i = 0;
+    while i < count {
+        let s = step(r, name, buffer, i, loops);
+        let after = s.r;
+        let next = s.loops;
+        r = after;
+        loops = next;
+        if r.input.ended {
+            return r;
+        }
+        i += 1;
+    }
+    r
+}
+
+pub fn list(before: Replay, name: &[u8], buffer: &mut [u8; BUFFER]) -> Replay {
+    let mut head = [0u64; 1];
+    let r = before.list(buffer, &mut head);
+    if r.input.ended {
+        return r;
+    }
+    play(r, name, buffer, head[0])
+}
