@@ -46,3 +46,8 @@ pub fn of32(x: f32) -> u64 {
     }
     f32::to_bits(x) as u64
 }
+
+// How a flag is recorded.
+pub fn flag(b: bool) -> u64 {
+    if b { 1 } else { 0 }
+}

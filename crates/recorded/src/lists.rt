@@ -1,4 +1,5 @@
 // The modules whose recorded files are lists of answers, each list from a fresh state.
+use super::decision;
 use super::detector_frames;
 use super::ducker;
 use super::filter;
@@ -11,6 +12,7 @@ pub enum Module {
     Filter,
     Level,
     Detector,
+    Decision,
     Ducker,
 }
 
@@ -20,6 +22,7 @@ fn next_list(module: Module, r: Replay, name: &[u8], buffer: &mut [u8; BUFFER]) 
         Module::Filter => filter::list(r, name, buffer),
         Module::Level => level_frames::list(r, name, buffer),
         Module::Detector => detector_frames::list(r, name, buffer),
+        Module::Decision => decision::list(r, name, buffer),
         Module::Ducker => ducker::list(r, name, buffer),
     }
 }

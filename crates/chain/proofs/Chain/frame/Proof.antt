@@ -1,0 +1,42 @@
+-- `Chain::frame` meets its contract: the tests in order, then what the frame works out.
+use mathlib.Core.Path.{sym}
+use borrow.Author.Needs.{needs}
+use Rattle.chain.specs.Chain.{frameOf}
+use Rattle.chain.proofs.Chain.frame.Statement.{statement}
+use Rattle.chain.proofs.Chain.frame.Tie as tie
+
+sound-requires : tie.Need-sound-requires
+sound-requires c κs = search needs
+
+sound-requires-2 : tie.Need-sound-requires-2
+sound-requires-2 c κs = search needs
+
+work-requires : tie.Need-work-requires
+work-requires c κs = search needs
+
+judged-requires : tie.Need-judged-requires
+judged-requires c κs = search needs
+
+returns : tie.Need-returns
+unfolding frameOf
+returns c =
+    simp (sym (c .before .before .before .before .sound .ensures), sym (c .before .before .before .sound2 .ensures), sym (c .before .work .ensures), sym (c .judged .ensures), c .before .before .before .before .before .if1 .taken, c .before .before .if2 .taken)
+
+refused-requires : tie.Need-refused-requires
+refused-requires c κs = search needs
+
+returns-2 : tie.Need-returns-2
+unfolding frameOf
+returns-2 c =
+    simp (sym (c .before .before .before .sound .ensures), sym (c .before .before .sound2 .ensures), sym (c .refused .ensures), c .before .before .before .before .if1 .taken, c .before .if2 .left)
+
+refused-requires-2 : tie.Need-refused-requires-2
+refused-requires-2 c κs = search needs
+
+returns-3 : tie.Need-returns-3
+unfolding frameOf
+returns-3 c =
+    simp (sym (c .refused2 .ensures), c .before .if1 .left)
+
+pub frame-spec : {M : Type 1} → statement M
+frame-spec = tie.close (tie.spec sound-requires sound-requires-2 work-requires judged-requires returns refused-requires returns-2 refused-requires-2 returns-3)

@@ -1,0 +1,7 @@
+pub mod Settings
+pub mod Chain
+pub mod Valid
+pub mod Numbers
+pub mod Rules
+pub mod Rust
+pub mod Loudness
