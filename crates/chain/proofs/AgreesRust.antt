@@ -179,12 +179,12 @@ reset-like c m n l = go (eqb n 0)
     go true = record { settings = l .settings; key = reset-agrees (c .key) (m .key) (l .key); bed = l .bed; config = l .config; ducker = l .ducker }
     go false = record { settings = l .settings; key = l .key; bed = reset-agrees (c .bed) (m .bed) (l .bed); config = l .config; ducker = l .ducker }
 
-like-next : (c : Chain) (m : model.RustChain) (e : Event) → Valid c → Like c m → refuses c e ≡ 0 → Like (next c e) (model.feed m e)
+pub like-next : (c : Chain) (m : model.RustChain) (e : Event) → Valid c → Like c m → refuses c e ≡ 0 → Like (next c e) (model.feed m e)
 like-next c m (frame key bed) v l z = frame-like c m v l key bed (accepted c key bed z)
 like-next c m (settings a) v l z = record { settings = refl; key = l .key; bed = l .bed; config = l .config; ducker = l .ducker }
 like-next c m (reset n) v l z = reset-like c m n l
 
-like-says : (c : Chain) (m : model.RustChain) (e : Event) → Valid c → Like c m → refuses c e ≡ 0 → answers c e ≡ model.says m e
+pub like-says : (c : Chain) (m : model.RustChain) (e : Event) → Valid c → Like c m → refuses c e ≡ 0 → answers c e ≡ model.says m e
 like-says c m (frame key bed) v l z = ap shown (frame-says c m v l key bed (accepted c key bed z))
 like-says c m (settings a) v l z = refl
 like-says c m (reset n) v l z = refl

@@ -6,3 +6,6 @@ pub mod Laws
 pub mod AgreesRust
 pub mod AgreesLoudness
 pub mod Promise
+pub mod Silence
+pub mod Witness
+pub mod Dead

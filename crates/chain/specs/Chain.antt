@@ -53,6 +53,17 @@ freshSettings = record { key = freshStrand; bed = freshStrand; duck = freshDuck 
 abbrev pub freshOf : Chain
 freshOf = record { settings = freshSettings; key = strand.freshOf; bed = strand.freshOf; loops = ratio.zeroLoops }
 
+-- ---- a part replaced
+
+abbrev pub withSettings : Chain → Settings → Chain
+withSettings c s = record { settings = s; key = c .key; bed = c .bed; loops = c .loops }
+
+abbrev pub withKey : Chain → Strand → Chain
+withKey c t = record { settings = c .settings; key = t; bed = c .bed; loops = c .loops }
+
+abbrev pub withBed : Chain → Strand → Chain
+withBed c t = record { settings = c .settings; key = c .key; bed = t; loops = c .loops }
+
 -- ---- a frame: key strand, bed strand, ducker
 
 -- what the ducker reads: each strand's activity after this frame, the key's short-term loudness, the bed's readings, all unrounded
@@ -115,17 +126,8 @@ changed c = record { chain = c; verdict = verdict.Passed }
 abbrev pub unchanged : Chain → Refusal → Changed
 unchanged c r = record { chain = c; verdict = verdict.Refused r }
 
-abbrev pub withSettings : Chain → Settings → Chain
-withSettings c s = record { settings = s; key = c .key; bed = c .bed; loops = c .loops }
-
 unfoldable pub setOf : Chain → Settings → Changed
 setOf c s = cond (outsideSettings callRanges s) (unchanged c BadSetting) (changed (withSettings c (storedOf s)))
-
-abbrev pub withKey : Chain → Strand → Chain
-withKey c t = record { settings = c .settings; key = t; bed = c .bed; loops = c .loops }
-
-abbrev pub withBed : Chain → Strand → Chain
-withBed c t = record { settings = c .settings; key = c .key; bed = t; loops = c .loops }
 
 unfoldable pub resetOf : Chain → ℕ → Changed
 resetOf c n =

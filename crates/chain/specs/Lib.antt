@@ -5,3 +5,4 @@ pub mod Numbers
 pub mod Rules
 pub mod Rust
 pub mod Loudness
+pub mod Dead

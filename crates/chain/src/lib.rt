@@ -6,6 +6,7 @@ ghost use Rattle.demands.specs.Demands.{EventDemands};
 ghost use Rattle.chain.specs.Rules.{rules, port};
 ghost use Rattle.chain.specs.Rust.{rust};
 ghost use Rattle.chain.specs.Loudness.{loudness};
+ghost use Rattle.chain.specs.Dead.{NoDeadUnits};
 ghost use Rattle.chain.specs.Settings.{callRanges, imageRanges, outsideOf, outsideStrand, outsideDuck, outsideSettings, zeroedOf, storedStrand, storedDuck, storedOf};
 ghost use Rattle.chain.specs.Chain.{freshStrand, freshDuck, freshSettings, freshOf, inputsOf, workOf, refusedOf, passedOf, judgedOf, frameOf, setOf, resetOf};
 use comis::loop_bank::Loops;
@@ -494,4 +495,9 @@ impl Chain {
 // Demands 1 and 2 over every list of frames, settings calls and resets. The function does nothing: its contract is the promise.
 pub fn demands()
     ensures { λ _. ⌜ EventDemands rules port rust loudness ⌝ }
+{}
+
+// No unit that meets the demands answers a fixed reduction, repeats its first answer, or refuses every frame.
+pub fn dead_units()
+    ensures { λ _. ⌜ NoDeadUnits ⌝ }
 {}
