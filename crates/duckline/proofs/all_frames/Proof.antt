@@ -1,0 +1,67 @@
+-- `all_frames` is safe and ends: less than a frame is held from read to read. The measure is the number of turns that are left.
+use Prim.Native.Nat.{_<_}
+use native.Mathlib.Omega.{arith}
+use borrow.Author.Needs.{needs}
+use Rattle.duckline.proofs.all_frames.Statement.{statement}
+use Rattle.duckline.proofs.all_frames.Tie as tie
+
+abbrev Inv-loop : tie.InvT-loop
+Inv-loop buffer₀ run₀ held₀ turns₀ buffer run held turns = held < 3840
+
+abbrev μ-loop : tie.MeasureT-loop
+μ-loop buffer₀ run₀ held₀ turns₀ buffer run held turns = turns
+
+new-requires : tie.Need-new-requires Inv-loop μ-loop
+new-requires c κs = search needs
+
+loop-holds : tie.Need-loop-holds Inv-loop μ-loop
+loop-holds c = search needs
+
+read-requires : tie.Need-read-requires Inv-loop μ-loop
+read-requires c κs = search needs
+
+returns : tie.Need-returns Inv-loop μ-loop
+returns c = search needs
+
+add-held : tie.Need-add-held Inv-loop μ-loop
+add-held c = search needs
+
+frames-requires : tie.Need-frames-requires Inv-loop μ-loop
+frames-requires c κs = search needs
+
+keep-requires : tie.Need-keep-requires Inv-loop μ-loop
+keep-requires c κs = search needs
+
+sub-turns : tie.Need-sub-turns Inv-loop μ-loop
+sub-turns c = search needs
+
+loop-less : tie.Need-loop-less Inv-loop μ-loop
+loop-less c = search needs
+
+loop-again : tie.Need-loop-again Inv-loop μ-loop
+loop-again c = search needs
+
+returns-2 : tie.Need-returns-2 Inv-loop μ-loop
+returns-2 c = search needs
+
+returns-3 : tie.Need-returns-3 Inv-loop μ-loop
+returns-3 c = search needs
+
+pub all-frames-spec : {M : Type 1} → statement M
+all-frames-spec =
+    tie.close
+    (tie.spec
+    Inv-loop
+    μ-loop
+    new-requires
+    loop-holds
+    read-requires
+    returns
+    add-held
+    frames-requires
+    keep-requires
+    sub-turns
+    loop-less
+    loop-again
+    returns-2
+    returns-3)

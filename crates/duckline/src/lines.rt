@@ -1,0 +1,119 @@
+// The lines of standard output. A frame's: its number, state, key active, bed active, and the rounded reduction in hundredths of a dB; or its
+// number, `refused` and the refusal's number.
+ghost use mathlib.Core.Path.{_≡_};
+ghost use Prim.Native.Nat.{_+_, _≤_};
+ghost use lib.ListN.{length};
+use chain::Answer;
+use chain::Outcome;
+use comis::mix_state::MixState;
+use libc::STDOUT_FILENO;
+
+// Bytes of the lines of 16 frames: at most 64 a line.
+pub const TEXT: usize = 1024;
+
+// Puts bytes at a place of the text, and answers the place after them.
+fn put(text: &mut [u8; TEXT], at: usize, bytes: &[u8]) -> usize
+    requires { ⌜ at + length (now bytes) ≤ 1024 ⌝ }
+    ensures { λ r. ⌜ r ≡ at + length (now (bytes .entry)) ⌝ }
+{
+    let mut k: usize = 0;
+    while k < bytes.len() {
+        text[at + k] = bytes[k];
+        k += 1;
+    }
+    at + k
+}
+
+// A number: at most 20 bytes.
+fn put_number(text: &mut [u8; TEXT], at: usize, n: u64) -> usize
+    requires { ⌜ at + 20 ≤ 1024 ⌝ }
+    ensures { λ r. ⌜ r ≤ at + 20 ⌝ }
+{
+    let mut digits = [0u8; 20];
+    let count = io::decimal(n, &mut digits);
+    put(text, at, &digits[..count])
+}
+
+// A state's name between two spaces: at most 11 bytes.
+fn put_state(text: &mut [u8; TEXT], at: usize, state: MixState) -> usize
+    requires { ⌜ at + 11 ≤ 1024 ⌝ }
+    ensures { λ r. ⌜ r ≤ at + 11 ⌝ }
+{
+    match state {
+        MixState::ReleaseToUnity => put(text, at, b" release "),
+        MixState::DuckToTarget => put(text, at, b" duck "),
+        MixState::InterviewPassthrough => put(text, at, b" interview "),
+        MixState::DuckToOvervoice => put(text, at, b" overvoice "),
+    }
+}
+
+// Whether speech is active, and a space.
+fn put_active(text: &mut [u8; TEXT], at: usize, active: bool) -> usize
+    requires { ⌜ at + 2 ≤ 1024 ⌝ }
+    ensures { λ r. ⌜ r ≤ at + 2 ⌝ }
+{
+    if active {
+        return put(text, at, b"1 ");
+    }
+    put(text, at, b"0 ")
+}
+
+// A rounded reduction, dB, in hundredths. It is never negative.
+fn hundredths(reduction: f64) -> u64 {
+    let n = float::round(reduction * 100.0);
+    if n > -1.0 {
+        if n < 18446744073709551616.0 {
+            return std::num::truncating_f64_to_u64(n);
+        }
+    }
+    0
+}
+
+// What follows a frame's number.
+fn put_answer(text: &mut [u8; TEXT], at: usize, a: Answer) -> usize
+    requires { ⌜ at + 44 ≤ 1024 ⌝ }
+    ensures { λ r. ⌜ r ≤ at + 36 ⌝ }
+{
+    let status = a.status;
+    let state = status.state;
+    let reduction = status.reduction_db;
+    let key = put_state(text, at, state);
+    let bed = put_active(text, key, a.key.speech_active);
+    let number = put_active(text, bed, a.bed.speech_active);
+    let end = put_number(text, number, hundredths(reduction.0));
+    put(text, end, b"\n")
+}
+
+// A frame's line, at most 64 bytes, at a place of the text: the place after it.
+pub fn frame(text: &mut [u8; TEXT], at: usize, number: u64, outcome: Outcome) -> usize
+    requires { ⌜ at + 64 ≤ 1024 ⌝ }
+    ensures { λ r. ⌜ r ≤ at + 64 ⌝ }
+{
+    let middle = put_number(text, at, number);
+    match outcome {
+        Outcome::Passed(a) => put_answer(text, middle, a),
+        Outcome::Refused(refusal) => {
+            let code = put(text, middle, b" refused ");
+            let end = put_number(text, code, demands::number(refusal));
+            put(text, end, b"\n")
+        }
+    }
+}
+
+// Writes the first n bytes of the text, and answers whether that could be done.
+pub fn write(text: &[u8; TEXT], n: usize) -> bool
+    requires { ⌜ n ≤ 1024 ⌝ }
+{
+    let whole: &[u8] = text;
+    io::write_all(STDOUT_FILENO, &whole[..n])
+}
+
+// The line of leftover bytes, where there are any.
+pub fn print_short(left: usize) {
+    if left == 0 {
+        return;
+    }
+    io::write_all(STDOUT_FILENO, b"short ");
+    io::print_decimal(STDOUT_FILENO, left as u64);
+    io::write_all(STDOUT_FILENO, b"\n");
+}

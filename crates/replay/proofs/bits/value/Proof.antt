@@ -1,0 +1,25 @@
+-- `bits::value` is safe: a pattern no larger than that of an infinity is no NaN's.
+use mathlib.Core.Path.{sym, subst, _∙_}
+use mathlib.Core.Bool.{Bool, not}
+use Prim.Native.Nat.{_*_, _^_, _%_}
+use lib.Dec.{T}
+use borrow.Author.Tests.{le-ltb}
+use lib.Ieee.{binary64}
+use lib.Ieee.Bits.{nanBits-above}
+use borrow.Author.Needs.{needs}
+use Rattle.replay.proofs.bits.value.Statement.{statement}
+use Rattle.replay.proofs.bits.value.Tie as tie
+
+returns : tie.Need-returns
+returns c = search needs
+
+float-from-bits-result : tie.Need-float-from-bits-result
+float-from-bits-result c =
+    let b = c .before .args .bits in
+    subst (λ (t : Bool). T (not t)) (sym (nanBits-above binary64 b ∙ le-ltb (2047 * 2 ^ 52) (b % 2 ^ 63) (c .if1 .left))) tt
+
+returns-2 : tie.Need-returns-2
+returns-2 c = search needs
+
+pub value-spec : {M : Type 1} → statement M
+value-spec = tie.close (tie.spec returns float-from-bits-result returns-2)

@@ -1,0 +1,33 @@
+// Settings from their 12 words.
+use super::bits;
+use chain::Settings;
+use float::Lufs;
+use ratio::Duck;
+use vad::VadSettings;
+
+fn strand(threshold: u64, hold_ms: u64, gate_lufs: u64) -> VadSettings {
+    VadSettings {
+        threshold: bits::value(threshold),
+        hold_ms: bits::value(hold_ms),
+        gate_lufs: Lufs(bits::value(gate_lufs)),
+    }
+}
+
+fn duck(w: &[u64; 12]) -> Duck {
+    Duck {
+        enabled: w[6] != 0,
+        target_lu: bits::value(w[7]),
+        overvoice_lu: bits::value(w[8]),
+        max_reduction_db: bits::value(w[9]),
+        speed: bits::value(w[10]),
+        bed_voice: w[11] != 0,
+    }
+}
+
+pub fn settings(w: &[u64; 12]) -> Settings {
+    Settings {
+        key: strand(w[0], w[1], w[2]),
+        bed: strand(w[3], w[4], w[5]),
+        duck: duck(w),
+    }
+}
