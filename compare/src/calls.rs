@@ -47,6 +47,30 @@ pub struct Replaced {
     pub value: f32,
 }
 
+impl Call {
+    /// The two strands of an odd frame.
+    pub fn odd_strands(&self) -> [Vec<f32>; 2] {
+        let Call::Odd {
+            key,
+            bed,
+            first,
+            lengths,
+            replaced,
+        } = *self
+        else {
+            panic!("{self:?} is no odd frame");
+        };
+        let mut lent = [
+            key.samples(first, lengths[0]),
+            bed.samples(first, lengths[1]),
+        ];
+        if let Some(r) = replaced {
+            lent[r.strand][r.index] = r.value;
+        }
+        lent
+    }
+}
+
 const FRAME: usize = 480;
 
 /// The words of a list and of its answers.
@@ -82,19 +106,14 @@ pub fn run(calls: &[Call], to: &mut Words) {
             } => {
                 put_frame_call(2, &key, &bed, first, to);
                 to.put_all(&lengths.map(|n| n as u64));
-                let mut lent = [
-                    key.samples(first, lengths[0]),
-                    bed.samples(first, lengths[1]),
-                ];
                 match replaced {
                     Some(r) => {
-                        lent[r.strand][r.index] = r.value;
                         to.put_all(&[r.strand as u64, r.index as u64]);
                         to.put(u64::from(r.value.to_bits()));
                     }
                     None => to.put_all(&[2, 0, 0]),
                 }
-                frame(&mut chain, &lent, true, to);
+                frame(&mut chain, &call.odd_strands(), true, to);
             }
             Call::Set(settings) => {
                 to.put(3);

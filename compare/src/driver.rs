@@ -45,8 +45,9 @@ impl Default for Settings {
     }
 }
 
-const STRAND_RANGES: [(f64, f64); 3] = [(0.0, 1.0), (0.0, 60_000.0), (-100.0, 0.0)];
-const DUCK_RANGES: [(f64, f64); 4] = [(0.0, 40.0), (0.0, 40.0), (0.0, 60.0), (0.01, 100.0)];
+/// The ranges of a strand's settings and of the duck's, in their order.
+pub const STRAND_RANGES: [(f64, f64); 3] = [(0.0, 1.0), (0.0, 60_000.0), (-100.0, 0.0)];
+pub const DUCK_RANGES: [(f64, f64); 4] = [(0.0, 40.0), (0.0, 40.0), (0.0, 60.0), (0.01, 100.0)];
 
 /// The value that is stored: in range, negative zero as zero.
 fn stored(x: f64, (low, high): (f64, f64)) -> Result<f64, Refusal> {

@@ -1,7 +1,7 @@
 //! The lists of calls that are recorded for whole frames and images.
 
 use crate::calls::{Call, Replaced};
-use crate::driver::Settings;
+use crate::driver::{Settings, DUCK_RANGES, STRAND_RANGES};
 use crate::random::Random;
 use crate::signals::*;
 
@@ -42,6 +42,55 @@ fn talking() -> Vec<Call> {
         Call::Reset(1),
         frames(other, talker(), 72_000, 60, 6),
     ]
+}
+
+/// 37 s: speech over silence and over a loud bed, an interview, both talking; each
+/// strand is reset while it speaks.
+fn programme() -> Vec<Call> {
+    let guest = Signal::new(NOISY_SPEECH, 420, FULL);
+    vec![
+        Call::Fresh,
+        frames(talker(), silence(), 0, 350, 7),
+        frames(talker(), noise(FULL), 168_000, 600, 7),
+        Call::Reset(0),
+        frames(talker(), noise(FULL), 456_000, 300, 7),
+        frames(silence(), guest, 600_000, 600, 7),
+        frames(talker(), guest, 888_000, 650, 7),
+        Call::Reset(1),
+        frames(talker(), guest, 1_200_000, 400, 7),
+        frames(talker(), silence(), 1_392_000, 450, 7),
+        frames(silence(), silence(), 1_608_000, 400, 20),
+    ]
+}
+
+/// Fresh settings with another number at one place.
+fn with(place: usize, x: f64) -> Settings {
+    let mut s = Settings::default();
+    match place {
+        0..=5 => s.strands[place / 3][place % 3] = x,
+        6 => s.target_lu = x,
+        7 => s.overvoice_lu = x,
+        8 => s.max_reduction_db = x,
+        _ => s.speed = x,
+    }
+    s
+}
+
+/// Each setting by itself: its ends, the numbers just past them, and what isn't
+/// finite, with a frame of speech after each.
+fn ends() -> Vec<Call> {
+    let bed = Signal::new(NOISY_SPEECH, 350, LOW);
+    let mut out = vec![Call::Fresh, frames(talker(), bed, 0, 100, 40)];
+    let ranges = [&STRAND_RANGES[..], &STRAND_RANGES, &DUCK_RANGES].concat();
+    let mut at = 48_000;
+    for (place, (low, high)) in ranges.into_iter().enumerate() {
+        let [down, up] = [low.next_down(), high.next_up()];
+        for x in [low, down, high, up, -0.0, f64::NAN, f64::INFINITY, -high] {
+            out.extend([Call::Set(with(place, x)), frames(talker(), bed, at, 1, 1)]);
+            at += 480;
+        }
+    }
+    out
 }
 
 /// Every setting's ends, in the middle of speech; refused settings change nothing.
@@ -103,15 +152,45 @@ fn odd(key: usize, bed: usize, replaced: Option<Replaced>) -> Call {
     }
 }
 
+fn bad(strand: usize, index: usize, value: f32) -> Option<Replaced> {
+    Some(Replaced {
+        strand,
+        index,
+        value,
+    })
+}
+
+/// Document 01's 500 Hz square wave at the largest f32.
+fn square() -> Signal {
+    Signal::new(SQUARE, 96, LOUD)
+}
+
+/// Refusals 1, 2, 3, 4 and 9 in turn between stretches of speech: they change
+/// nothing. (Refusal 5 takes 2^32 onsets, so no list meets it.)
+fn interrupted() -> Vec<Call> {
+    let guest = Signal::new(NOISY_SPEECH, 333, LOW);
+    let mut out = vec![Call::Fresh];
+    for i in 0..60 {
+        let at = i * 4_800;
+        out.push(frames(talker(), guest, at, 10, 5));
+        out.push(match i % 10 {
+            0 => odd(479, 480, None),
+            1 => odd(480, 480, bad(1, 3, f32::NAN)),
+            2 => Call::Set(with(9, 0.0)),
+            3 => frames(square(), guest, at, 1, 1),
+            4 => Call::Reset(2),
+            5 => odd(480, 0, bad(0, 0, f32::INFINITY)),
+            6 => odd(480, 480, bad(0, 479, f32::NEG_INFINITY)),
+            7 => Call::Set(with(5, f64::NAN)),
+            8 => frames(talker(), square(), at, 2, 1),
+            _ => Call::Reset(1 << 32),
+        });
+    }
+    out
+}
+
 /// Short and long frames, bad samples, a missing strand; then runaways.
 fn refused() -> Vec<Call> {
-    let bad = |strand, index, value| {
-        Some(Replaced {
-            strand,
-            index,
-            value,
-        })
-    };
     let mut out = vec![Call::Fresh, odd(480, 480, None)];
     out.extend(
         [(479, 480), (480, 479), (0, 0), (481, 480), (480, 481)].map(|(k, b)| odd(k, b, None)),
@@ -129,8 +208,11 @@ fn refused() -> Vec<Call> {
         Call::Reset(0),
         odd(480, 480, None),
     ]);
-    let square = Signal::new(SQUARE, 96, LOUD);
-    for (key, bed) in [(square, square), (square, silence()), (silence(), square)] {
+    for (key, bed) in [
+        (square(), square()),
+        (square(), silence()),
+        (silence(), square()),
+    ] {
         out.extend([
             Call::Fresh,
             frames(key, bed, 0, 3, 1),
@@ -142,7 +224,7 @@ fn refused() -> Vec<Call> {
     out.extend([
         Call::Fresh,
         frames(talker(), half, 0, 30, 10),
-        frames(talker(), square, 14_400, 2, 1),
+        frames(talker(), square(), 14_400, 2, 1),
         frames(talker(), half, 14_400, 10, 3),
     ]);
     out
@@ -159,7 +241,7 @@ fn every_signal() -> Vec<Call> {
     out
 }
 
-fn random_settings(random: &mut Random) -> Settings {
+pub fn random_settings(random: &mut Random) -> Settings {
     let mut s = Settings::default();
     for strand in &mut s.strands {
         *strand = [
@@ -177,7 +259,7 @@ fn random_settings(random: &mut Random) -> Settings {
     s
 }
 
-fn random_signal(random: &mut Random) -> Signal {
+pub fn random_signal(random: &mut Random) -> Signal {
     if random.chance(50) {
         return random.pick(&all());
     }
@@ -217,10 +299,11 @@ pub fn random_list(random: &mut Random, calls: u64, every: u64) -> Vec<Call> {
 /// The recorded whole frames.
 pub fn recorded() -> Vec<Call> {
     let mut out = vec![Call::Fresh, frames(silence(), silence(), 0, 2, 1)];
-    out.extend([talking(), settings(), refused(), every_signal()].concat());
+    out.extend([talking(), programme(), settings(), ends()].concat());
+    out.extend([refused(), interrupted(), every_signal()].concat());
     let random = &mut Random::new(2);
-    for _ in 0..12 {
-        out.extend(random_list(random, 12, 9));
+    for _ in 0..16 {
+        out.extend(random_list(random, 12, 7));
     }
     out
 }

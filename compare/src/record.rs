@@ -4,7 +4,6 @@ use crate::auto::level::Level;
 use crate::auto::vad::{Detector, FeatureDetector, Inside};
 use crate::dsp::biquad;
 use crate::dsp::loudness::{K_HIGH_PASS, K_SHELF};
-use crate::random::Random;
 use crate::signals;
 use crate::words::Words;
 use crate::{calls, decision, ducker, lists, numbers, standins};
@@ -141,14 +140,4 @@ pub fn module(name: &str) -> Option<Vec<u8>> {
         .iter()
         .find(|(n, _)| *n == name)
         .map(|(_, record)| record())
-}
-
-/// Random lists of calls with every answer, for a port's `replay`.
-pub fn random_calls(seed: u64, count: u64) -> Vec<u8> {
-    let mut words = Words::default();
-    let random = &mut Random::new(seed);
-    for _ in 0..count {
-        calls::run(&lists::random_list(random, 12, 1), &mut words);
-    }
-    words.file("calls, made by compare calls; as frames, every answer whole.")
 }

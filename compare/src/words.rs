@@ -55,6 +55,10 @@ impl Words {
         self.words.resize(self.words.len() + count, 0);
     }
 
+    pub fn bytes(&self) -> Vec<u8> {
+        self.words.iter().flat_map(|w| w.to_le_bytes()).collect()
+    }
+
     /// The file: `text` padded with spaces to 255 bytes, a newline, the words.
     pub fn file(&self, text: &str) -> Vec<u8> {
         assert!(
@@ -63,9 +67,7 @@ impl Words {
             text.len()
         );
         let mut bytes = format!("{text:<255}\n").into_bytes();
-        for w in &self.words {
-            bytes.extend_from_slice(&w.to_le_bytes());
-        }
+        bytes.extend(self.bytes());
         bytes
     }
 }

@@ -4,15 +4,17 @@ use std::io::Write;
 use std::process::ExitCode;
 
 use compare::signals::{Signal, FULL, LOW, NOISY_SPEECH, SPEECH};
-use compare::{constants, record, selftest};
+use compare::{constants, record, replay, selftest};
 
 const HELP: &str = "\
-compare record MODULE [-o PATH]  writes a module's recorded answers
-compare calls SEED COUNT         writes COUNT random lists of calls with their answers
-compare audio COUNT              writes COUNT frames as duckline reads them: speech, noisy speech
-compare constants                prints the constants' table
-compare selftest                 tests root, narrowing, round and document 01's examples
-compare paths                    prints each module and where its recorded file lies";
+compare record MODULE [-o PATH]      writes a module's recorded answers
+compare replay calls [SEED COUNT]    writes a random list of COUNT calls as replay reads it;
+                                     without SEED and COUNT the one that is kept
+compare replay answers [SEED COUNT]  writes the Rust's answers to it
+compare audio COUNT                  writes COUNT frames as duckline reads them: speech, noisy speech
+compare constants                    prints the constants' table
+compare selftest                     tests root, narrowing, round and document 01's examples
+compare paths                        prints each module and where its recorded file lies";
 
 fn put(bytes: &[u8]) -> Result<(), String> {
     std::io::stdout()
@@ -40,8 +42,17 @@ fn number(text: &str) -> Result<u64, String> {
         .map_err(|_| format!("{text} is no whole number"))
 }
 
-fn calls(seed: &str, count: &str) -> Result<(), String> {
-    put(&record::random_calls(number(seed)?, number(count)?))
+fn replayed(part: &str, list: &[&str]) -> Result<(), String> {
+    let done = match list {
+        [] => replay::kept(),
+        [seed, count] => replay::random(number(seed)?, number(count)?),
+        _ => return Err(format!("usage:\n{HELP}")),
+    };
+    match part {
+        "calls" => put(&done.calls),
+        "answers" => put(&done.answers),
+        _ => Err(format!("usage:\n{HELP}")),
+    }
 }
 
 fn audio(count: &str) -> Result<(), String> {
@@ -78,7 +89,7 @@ fn main() -> ExitCode {
     let done = match given.as_slice() {
         [.., "-h" | "--help"] | [] => put(format!("{HELP}\n").as_bytes()),
         ["record", rest @ ..] => record(rest),
-        ["calls", seed, count] => calls(seed, count),
+        ["replay", part, list @ ..] => replayed(part, list),
         ["audio", count] => audio(count),
         ["constants"] => put(constants::text().as_bytes()),
         ["selftest"] => test(),

@@ -1,3 +1,4 @@
+pub mod Apart
 pub mod Zero
 pub mod AllFinite
 pub mod Accepted

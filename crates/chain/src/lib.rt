@@ -1,7 +1,11 @@
 // A chain: the key strand (0, the commentator), the bed strand (1), the settings and the ducker. A frame, a settings call or a reset gets an
 // answer or one refusal, and a refusal leaves the chain as it was.
 ghost use mathlib.Core.Path.{_≡_};
+ghost use lib.ListN.{length};
+ghost use Rattle.level.specs.Bs1770.{frameLength};
 ghost use Rattle.level.specs.Finite.{allFinite};
+ghost use Rattle.detector.specs.Filters.{outputsOf};
+ghost use Rattle.chain.specs.Lanes.{Whole, weighedOf, bandedOf, finishedOf, strandsOf};
 ghost use Rattle.demands.specs.Demands.{EventDemands};
 ghost use Rattle.chain.specs.Rules.{rules, port};
 ghost use Rattle.chain.specs.Rust.{rust};
@@ -11,8 +15,10 @@ ghost use Rattle.chain.specs.Settings.{callRanges, imageRanges, outsideO
 ghost use Rattle.chain.specs.Chain.{freshStrand, freshDuck, freshSettings, freshOf, inputsOf, workOf, refusedOf, passedOf, judgedOf, frameOf, setOf, resetOf};
 use comis::loop_bank::Loops;
 use demands::Refusal;
+use detector::Bands;
 use float::Db;
 use float::Lufs;
+use level::Weighing;
 use ratio::Duck;
 use ratio::Inputs;
 use ratio::RatioStatus;
@@ -130,6 +136,24 @@ pub enum Verdict {
 pub struct Changed {
     pub chain: Chain,
     pub verdict: Verdict,
+}
+
+// The level's filters of both strands.
+pub struct Weighed {
+    pub key: Weighing,
+    pub bed: Weighing,
+}
+
+// The detector's filters of both strands.
+pub struct Banded {
+    pub key: Bands,
+    pub bed: Bands,
+}
+
+// Both strands after a frame.
+pub struct Strands {
+    pub key: vad::Framed,
+    pub bed: vad::Framed,
 }
 
 // What a frame makes of a chain's strands and ducker, before anything of it is kept.
@@ -299,6 +323,67 @@ fn sound(v: &[f32]) -> bool
     true
 }
 
+// The level's filters over a frame, both strands in one loop, so that their steps go side by side.
+fn weigh(key: Weighing, bed: Weighing, xs: &[f64; 480], ys: &[f64; 480]) -> Weighed
+    requires { ⌜ (length (now xs) ≡ frameLength) × (length (now ys) ≡ frameLength) ⌝ }
+    ensures { λ r. ⌜ r ≡ weighedOf key bed (now (xs .entry)) (now (ys .entry)) ⌝ }
+{
+    let mut k = key;
+    let mut b = bed;
+    let mut i = 0;
+    while i < FRAME {
+        k = k.step(xs[i]);
+        b = b.step(ys[i]);
+        i += 1;
+    }
+    Weighed { key: k, bed: b }
+}
+
+// The detector's filters likewise; the pitch pair's output for each sample goes to `out` and `also`.
+fn band(
+    key: Bands,
+    bed: Bands,
+    xs: &[f64; 480],
+    ys: &[f64; 480],
+    out: &mut [f64; 480],
+    also: &mut [f64; 480],
+) -> Banded
+    requires { ⌜ (length (now xs) ≡ frameLength) × (length (now ys) ≡ frameLength) × (length (now out) ≡ frameLength) × (length (now also) ≡ frameLength) ⌝ }
+    ensures { λ r. ⌜ (r ≡ bandedOf key bed (now (xs .entry)) (now (ys .entry))) × (now (out .exit) ≡ outputsOf key (now (xs .entry)))
+        × (now (also .exit) ≡ outputsOf bed (now (ys .entry))) ⌝ }
+{
+    let mut k = key;
+    let mut b = bed;
+    let mut i = 0;
+    while i < FRAME {
+        k = k.step(xs[i]);
+        b = b.step(ys[i]);
+        out[i] = k.pitch;
+        also[i] = b.pitch;
+        i += 1;
+    }
+    Banded { key: k, bed: b }
+}
+
+fn no_outputs() -> [f64; 480]
+    ensures { λ r. ⌜ length r ≡ frameLength ⌝ }
+{
+    [0.0; 480]
+}
+
+// What follows the filters of one strand.
+fn finished(t: Strand, w: Weighing, b: Bands, ys: &[f64; 480], settings: VadSettings) -> vad::Framed
+    ensures { λ r. ⌜ r ≡ finishedOf t w b (now (ys .entry)) settings ⌝ }
+{
+    let level = t.level;
+    let powers = level.powers;
+    let detector = t.detector;
+    let decision = t.decision;
+    let l = level::finish(w, powers, FRAME);
+    let h = detector.finish(b, ys);
+    vad::finish(decision, l, h, settings)
+}
+
 // What the ducker reads of the two strands after a frame.
 fn inputs(key: vad::Framed, bed: vad::Framed) -> Inputs
     ensures { λ r. ⌜ r ≡ inputsOf key bed ⌝ }
@@ -340,19 +425,55 @@ impl Chain {
         }
     }
 
-    // Key strand, bed strand, then the ducker.
-    fn work(self, key: &[f32], bed: &[f32]) -> Worked
-        ensures { λ r. ⌜ r ≡ workOf self (now (key .entry)) (now (bed .entry)) ⌝ }
+    // Key strand and bed strand, over the samples as f64.
+    fn strands(self, xs: &[f64; 480], ys: &[f64; 480]) -> Strands
+        requires { ⌜ (length (now xs) ≡ frameLength) × (length (now ys) ≡ frameLength) ⌝ }
+        ensures { λ r. ⌜ r ≡ strandsOf self (now (xs .entry)) (now (ys .entry)) ⌝ }
     {
         let settings = self.settings;
         let key_settings = settings.key;
         let bed_settings = settings.bed;
+        let key = self.key;
+        let bed = self.bed;
+        let key_level = key.level;
+        let bed_level = bed.level;
+        let key_detector = key.detector;
+        let bed_detector = bed.detector;
+        let key_filters = key_detector.filters;
+        let bed_filters = bed_detector.filters;
+        let w = weigh(key_level.start(), bed_level.start(), xs, ys);
+        let mut out = no_outputs();
+        let mut also = no_outputs();
+        let f = band(
+            key_filters.begin(),
+            bed_filters.begin(),
+            xs,
+            ys,
+            &mut out,
+            &mut also,
+        );
+        let key_weighed = w.key;
+        let bed_weighed = w.bed;
+        let key_bands = f.key;
+        let bed_bands = f.bed;
+        let k = finished(key, key_weighed, key_bands, &out, key_settings);
+        let b = finished(bed, bed_weighed, bed_bands, &also, bed_settings);
+        Strands { key: k, bed: b }
+    }
+
+    // Key strand, bed strand, then the ducker. `frame` has tested both slices.
+    fn work(self, key: &[f32], bed: &[f32]) -> Worked
+        requires { ⌜ Whole (now key) (now bed) ⌝ }
+        ensures { λ r. ⌜ r ≡ workOf self (now (key .entry)) (now (bed .entry)) ⌝ }
+    {
+        let settings = self.settings;
         let duck = settings.duck;
-        let key_strand = self.key;
-        let bed_strand = self.bed;
         let loops = self.loops;
-        let k = key_strand.frame(key, key_settings);
-        let b = bed_strand.frame(bed, bed_settings);
+        let xs = detector::samples(key);
+        let ys = detector::samples(bed);
+        let s = self.strands(&xs, &ys);
+        let k = s.key;
+        let b = s.bed;
         let d = ratio::frame(loops, duck, inputs(k, b));
         Worked {
             key: k,

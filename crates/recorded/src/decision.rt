@@ -26,6 +26,15 @@ struct Stepped {
     decision: Decision,
 }
 
+// A strand's settings by their three words.
+pub fn settings(threshold: u64, hold_ms: u64, gate_lufs: u64) -> VadSettings {
+    VadSettings {
+        threshold: bits::value(threshold),
+        hold_ms: bits::value(hold_ms),
+        gate_lufs: Lufs(bits::value(gate_lufs)),
+    }
+}
+
 fn heard(w: &[u64; GIVEN]) -> Heard {
     Heard {
         detector: FeatureDetector::new(),
@@ -154,10 +163,11 @@ pub fn list(before: Replay, name: &[u8], buffer: &mut [u8; BUFFER]) -> Replay {
     if r.input.ended {
         return r;
     }
-    let settings = VadSettings {
-        threshold: bits::value(head[0]),
-        hold_ms: bits::value(head[1]),
-        gate_lufs: Lufs(bits::value(head[2])),
-    };
-    play(r, name, buffer, settings, head[3])
+    play(
+        r,
+        name,
+        buffer,
+        settings(head[0], head[1], head[2]),
+        head[3],
+    )
 }

@@ -10,8 +10,11 @@ use ratio::Duck;
 use ratio::Inputs;
 use ratio::RatioStatus;
 
-// The settings and inputs of a frame.
-const GIVEN: usize = 12;
+// The duck's settings.
+pub const SETTINGS: usize = 6;
+
+// The inputs of a frame.
+const INPUTS: usize = 6;
 
 // What has been compared, and the loops for the next frame.
 struct Stepped {
@@ -19,7 +22,7 @@ struct Stepped {
     loops: Loops,
 }
 
-fn settings(w: &[u64; GIVEN]) -> Duck {
+pub fn settings(w: &[u64; SETTINGS]) -> Duck {
     Duck {
         enabled: w[0] == 1,
         target_lu: bits::value(w[1]),
@@ -30,14 +33,14 @@ fn settings(w: &[u64; GIVEN]) -> Duck {
     }
 }
 
-fn inputs(w: &[u64; GIVEN]) -> Inputs {
+fn inputs(w: &[u64; INPUTS]) -> Inputs {
     Inputs {
-        key_voice: w[6] == 1,
-        target_voice: w[7] == 1,
-        dialogue_short_term: Lufs(bits::value(w[8])),
-        bed_short_term: Lufs(bits::value(w[9])),
-        bed_momentary: Lufs(bits::value(w[10])),
-        bed_fast: Lufs(bits::value(w[11])),
+        key_voice: w[0] == 1,
+        target_voice: w[1] == 1,
+        dialogue_short_term: Lufs(bits::value(w[2])),
+        bed_short_term: Lufs(bits::value(w[3])),
+        bed_momentary: Lufs(bits::value(w[4])),
+        bed_fast: Lufs(bits::value(w[5])),
     }
 }
 
@@ -75,9 +78,11 @@ fn stored(l: Loops) -> [u64; 4] {
 
 // Frame i of a list.
 fn step(before: Replay, name: &[u8], buffer: &mut [u8; BUFFER], i: u64, loops: Loops) -> Stepped {
-    let mut w = [0u64; GIVEN];
-    let given = before.words(buffer, &mut w);
-    let f = ratio::frame(loops, settings(&w), inputs(&w));
+    let mut s = [0u64; SETTINGS];
+    let mut x = [0u64; INPUTS];
+    let set = before.words(buffer, &mut s);
+    let given = set.words(buffer, &mut x);
+    let f = ratio::frame(loops, settings(&s), inputs(&x));
     let reduction = f.reduction;
     let status = f.status;
     let next = f.loops;

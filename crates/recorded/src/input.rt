@@ -86,9 +86,17 @@ impl Input {
                 };
             }
         }
-        input.ended = true;
-        input.early = true;
-        Got { word: 0, input }
+        Got {
+            word: 0,
+            input: input.stop(),
+        }
+    }
+
+    // The same file, ended early.
+    pub fn stop(mut self) -> Input {
+        self.ended = true;
+        self.early = true;
+        self
     }
 
     // The next words, as many as `to` has places.

@@ -4,6 +4,7 @@ mod decision;
 mod detector_frames;
 mod ducker;
 mod filter;
+mod frames;
 mod input;
 mod level_frames;
 mod lists;
@@ -21,4 +22,5 @@ fn main() {
     lists::replay(Module::Detector, b"detector", b" signals, ", b" frames, ");
     lists::replay(Module::Decision, b"decision", b" lists, ", b" frames, ");
     lists::replay(Module::Ducker, b"ducker", b" lists, ", b" frames, ");
+    frames::replay(b"frames");
 }

@@ -1,6 +1,5 @@
 // A recorded file of lists, and what has been compared of it.
 use super::input::BUFFER;
-use super::input::Got;
 use super::input::Input;
 use super::print;
 
@@ -37,16 +36,27 @@ pub fn open(name: &[u8], buffer: &mut [u8; BUFFER]) -> Replay {
 }
 
 impl Replay {
-    // The words that the next list begins with, where there is one.
-    pub fn list(mut self, buffer: &mut [u8; BUFFER], to: &mut [u64]) -> Replay {
+    // The next words, where the file may end before them.
+    pub fn first_words(mut self, buffer: &mut [u8; BUFFER], to: &mut [u64]) -> Replay {
         let before = self.input;
         let input = before.first_words(buffer, to);
         self.input = input;
-        if input.ended {
-            return self;
-        }
+        self
+    }
+
+    // A list begins.
+    pub fn begin(mut self) -> Replay {
         self.lists = std::num::wrapping_add_u64(self.lists, 1);
         self
+    }
+
+    // The words that the next list begins with, where there is one.
+    pub fn list(self, buffer: &mut [u8; BUFFER], to: &mut [u64]) -> Replay {
+        let r = self.first_words(buffer, to);
+        if r.input.ended {
+            return r;
+        }
+        r.begin()
     }
 
     // The next words of the list.
@@ -58,20 +68,27 @@ impl Replay {
     }
 
     // 1 where the recorded word is another than the computed one, which is shown; else 0.
-    fn off(self, name: &[u8], place: u64, recorded: Got, computed: u64) -> u64 {
-        if recorded.input.ended {
+    fn off(self, name: &[u8], place: u64, recorded: u64, computed: u64) -> u64 {
+        if self.input.ended {
             return 0;
         }
-        if recorded.word == computed {
+        if recorded == computed {
             return 0;
         }
         if self.differ < SHOWN {
             print_place(name, std::num::wrapping_sub_u64(self.lists, 1), place);
             print::text(b", word ");
             print::number(self.word);
-            print::difference(recorded.word, computed);
+            print::difference(recorded, computed);
         }
         1
+    }
+
+    // Compares a word that has been read with the computed one.
+    pub fn judge(mut self, name: &[u8], place: u64, recorded: u64, computed: u64) -> Replay {
+        self.wrong = self.wrong | self.off(name, place, recorded, computed);
+        self.word = std::num::wrapping_add_u64(self.word, 1);
+        self
     }
 
     fn compare_word(
@@ -83,11 +100,9 @@ impl Replay {
     ) -> Replay {
         let before = self.input;
         let got = before.word(buffer);
-        self.wrong = self.wrong | self.off(name, place, got, computed);
-        self.word = std::num::wrapping_add_u64(self.word, 1);
         let input = got.input;
         self.input = input;
-        self
+        self.judge(name, place, got.word, computed)
     }
 
     // Compares the list's next words with those of a part of an answer. The place is shown where they differ.
@@ -140,6 +155,13 @@ impl Replay {
         words: &[u64],
     ) -> Replay {
         self.compare(name, buffer, place, words).count()
+    }
+
+    // The file goes on with something unknown: nothing more can be read of it.
+    pub fn stop(mut self) -> Replay {
+        let before = self.input;
+        self.input = before.stop();
+        self
     }
 
     // Closes the file and says what its lists and its answers came to.

@@ -2,6 +2,7 @@
 use mathlib.Core.Path.{sym}
 use borrow.Author.Needs.{needs}
 use Rattle.chain.specs.Chain.{frameOf}
+use Rattle.chain.proofs.Apart.{whole-frame}
 use Rattle.chain.proofs.Chain.frame.Statement.{statement}
 use Rattle.chain.proofs.Chain.frame.Tie as tie
 
@@ -12,7 +13,9 @@ sound-requires-2 : tie.Need-sound-requires-2
 sound-requires-2 c κs = search needs
 
 work-requires : tie.Need-work-requires
-work-requires c κs = search needs
+work-requires c κs =
+    let a = c .before .before .before .before .before .before .args in
+    whole-frame (a .key .now) (a .bed .now) (c .before .before .sound .result) (c .before .sound2 .result) (c .before .before .before .if1 .taken) (c .before .before .sound .ensures) (c .before .sound2 .ensures) (c .if2 .taken)
 
 judged-requires : tie.Need-judged-requires
 judged-requires c κs = search needs

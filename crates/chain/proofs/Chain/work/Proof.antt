@@ -1,26 +1,40 @@
 -- `Chain::work` meets its contract: the strands, then the ducker.
-use mathlib.Core.Path.{sym}
 use borrow.Author.Needs.{needs}
 use Rattle.chain.specs.Chain.{workOf}
+use Rattle.chain.specs.Lanes.{strandsOf}
+use Rattle.chain.proofs.Apart.{strand-apart}
 use Rattle.chain.proofs.Chain.work.Statement.{statement}
 use Rattle.chain.proofs.Chain.work.Tie as tie
 
-frame-requires : tie.Need-frame-requires
-frame-requires c κs = search needs
+samples-requires : tie.Need-samples-requires
+samples-requires c κs = search needs
 
-frame-requires-2 : tie.Need-frame-requires-2
-frame-requires-2 c κs = search needs
+samples-requires-2 : tie.Need-samples-requires-2
+samples-requires-2 c κs = search needs
+
+strands-requires : tie.Need-strands-requires
+strands-requires c κs = search needs
 
 inputs-requires : tie.Need-inputs-requires
 inputs-requires c κs = search needs
 
-frame-requires-3 : tie.Need-frame-requires-3
-frame-requires-3 c κs = search needs
+frame-requires : tie.Need-frame-requires
+frame-requires c κs = search needs
 
 returns : tie.Need-returns
-unfolding workOf
+unfolding workOf strandsOf
 returns c =
-    simp (sym (c .before .before .before .frame .ensures), sym (c .before .before .frame2 .ensures), sym (c .before .inputs .ensures), sym (c .frame3 .ensures))
+    let a = c .before .before .before .before .before .before .before .before .before .before .before .before .before .before .args in
+    let w = c .before .before .before .before .before .before .before .before .before .before .before .before .before .before .pre in
+    simp (
+      c .frame .ensures,
+      c .before .inputs .ensures,
+      c .before .before .before .before .strands .ensures,
+      c .before .before .before .before .before .before .before .samples2 .ensures,
+      c .before .before .before .before .before .before .before .before .samples .ensures,
+      strand-apart (a .key .now) (w .key-length) (w .key-samples) (a .self .key) (a .self .settings .key),
+      strand-apart (a .bed .now) (w .bed-length) (w .bed-samples) (a .self .bed) (a .self .settings .bed),
+    )
 
 pub work-spec : {M : Type 1} → statement M
-work-spec = tie.close (tie.spec frame-requires frame-requires-2 inputs-requires frame-requires-3 returns)
+work-spec = tie.close (tie.spec samples-requires samples-requires-2 strands-requires inputs-requires frame-requires returns)

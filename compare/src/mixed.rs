@@ -1,0 +1,202 @@
+//! The lists of calls that the program replay runs: the one that is kept, and random ones.
+
+use crate::calls::{Call, Replaced};
+use crate::driver::Settings;
+use crate::lists::{random_settings, random_signal};
+use crate::random::Random;
+use crate::signals::*;
+
+const FRAME: usize = 480;
+
+fn frames(key: Signal, bed: Signal, first: u64, count: u64) -> Call {
+    Call::Frames {
+        key,
+        bed,
+        first,
+        count,
+        every: 1,
+    }
+}
+
+/// Values that a setting meets at its ends and outside its range.
+const EXTREMES: [f64; 22] = [
+    -0.0,
+    0.0,
+    1.0,
+    60_000.0,
+    -100.0,
+    40.0,
+    60.0,
+    0.01,
+    100.0,
+    5e-324,
+    -5e-324,
+    1.0000000000000002,
+    60_000.00000000001,
+    -100.00000000000001,
+    40.00000000000001,
+    0.009999999999999998,
+    100.00000000000001,
+    f64::MAX,
+    f64::NAN,
+    -f64::NAN,
+    f64::INFINITY,
+    f64::NEG_INFINITY,
+];
+
+/// Settings of which some are at the ends of their ranges, outside them, or any bits.
+fn extreme_settings(random: &mut Random) -> Settings {
+    let mut s = random_settings(random);
+    let outside = |random: &mut Random, x: &mut f64| match random.below(20) {
+        0 => *x = random.pick(&EXTREMES),
+        1 => *x = f64::from_bits(random.bits()),
+        _ => (),
+    };
+    for x in s.strands.as_flattened_mut() {
+        outside(random, x);
+    }
+    for x in [
+        &mut s.target_lu,
+        &mut s.overvoice_lu,
+        &mut s.max_reduction_db,
+        &mut s.speed,
+    ] {
+        outside(random, x);
+    }
+    s
+}
+
+/// A frame of a wrong length, with a sample of any bits, or both.
+fn odd_frame(random: &mut Random, first: u64) -> Call {
+    let length = |random: &mut Random| match random.below(10) {
+        0 => random.pick(&[0, 1, 479, 481, 482, 960, 961, 962, 5_000]),
+        1 => random.below(600) as usize,
+        _ => FRAME,
+    };
+    let lengths = [length(random), length(random)];
+    let strand = random.below(2) as usize;
+    let any = random.bits() as u32;
+    let bits = random.pick(&[
+        0x7f80_0000,
+        0xff80_0000,
+        0x7f80_0001,
+        0x7fc0_0000,
+        0xffff_ffff,
+        0x7f7f_ffff,
+        0x8000_0000,
+        0x0000_0001,
+        any,
+    ]);
+    let replaced = (lengths[strand] > 0 && random.chance(70)).then(|| Replaced {
+        strand,
+        index: random.below(lengths[strand] as u64) as usize,
+        value: f32::from_bits(bits),
+    });
+    Call::Odd {
+        key: random_signal(random),
+        bed: random_signal(random),
+        first,
+        lengths,
+        replaced,
+    }
+}
+
+/// A run of frames; now and then a square wave that runs away.
+fn random_frames(random: &mut Random, first: u64, most: u64) -> Call {
+    let loud = Signal::new(SQUARE, 96, LOUD);
+    let mut key = random_signal(random);
+    let mut bed = random_signal(random);
+    if random.chance(5) {
+        key = loud;
+    }
+    if random.chance(5) {
+        bed = loud;
+    }
+    frames(key, bed, first, 1 + random.below(most.min(120)))
+}
+
+/// One list of `calls` calls on one chain, a frame a call: every signal, settings at and
+/// outside the ends of their ranges, resets, and frames that are refused.
+pub fn random_list(random: &mut Random, calls: u64) -> Vec<Call> {
+    let mut out = vec![Call::Fresh];
+    let mut left = calls;
+    let mut at = random.below(1 << 20);
+    while left > 0 {
+        let call = match random.below(10) {
+            0..=1 => Call::Set(extreme_settings(random)),
+            2 => Call::Reset(random.pick(&[0, 1, 0, 1, 0, 1, 2, 1 << 32, u64::MAX])),
+            3..=4 => odd_frame(random, at),
+            _ => random_frames(random, at, left),
+        };
+        let count = match call {
+            Call::Frames { count, .. } => count,
+            _ => 1,
+        };
+        at += count * FRAME as u64;
+        left -= count;
+        out.push(call);
+    }
+    out
+}
+
+/// The list that the program replay is held to: each state, each refusal that a list
+/// without images can meet, settings, resets.
+pub fn kept() -> Vec<Call> {
+    let fresh = Settings::default();
+    let thresholds = |key, bed| Settings {
+        strands: [[key, 20.0, -100.0], [bed, 20.0, -100.0]],
+        ..fresh
+    };
+    let silence = Signal::new(SILENCE, 0, FULL);
+    let talker = Signal::new(SPEECH, 400, FULL);
+    let other = Signal::new(NOISY_SPEECH, 333, FULL);
+    let square = Signal::new(SQUARE, 96, LOUD);
+    let crowd = |scale| Signal::new(NOISE, 9, scale);
+    let odd = |key, bed, replaced| Call::Odd {
+        key: talker,
+        bed: crowd(LOW),
+        first: 48_000,
+        lengths: [key, bed],
+        replaced,
+    };
+    let bad = |strand, index, value| {
+        Some(Replaced {
+            strand,
+            index,
+            value,
+        })
+    };
+    vec![
+        Call::Fresh,
+        frames(silence, silence, 0, 2),
+        odd(479, 480, None),
+        odd(480, 481, None),
+        odd(0, 1000, None),
+        odd(480, 480, bad(0, 479, f32::NAN)),
+        odd(480, 480, bad(1, 0, f32::NEG_INFINITY)),
+        odd(480, 480, bad(1, 0, -0.0)),
+        Call::Set(thresholds(0.0, 1.0)),
+        frames(talker, crowd(LOW), 4_800, 8),
+        Call::Set(thresholds(-0.0, 0.0)),
+        frames(talker, other, 9_600, 6),
+        Call::Set(thresholds(f64::NAN, 0.0)),
+        Call::Set(thresholds(1.0, 0.0)),
+        frames(talker, other, 14_400, 6),
+        frames(square, silence, 0, 2),
+        frames(silence, square, 0, 2),
+        Call::Reset(0),
+        Call::Reset(2),
+        Call::Reset(1),
+        Call::Set(Settings {
+            enabled: false,
+            ..fresh
+        }),
+        frames(talker, other, 19_200, 2),
+        Call::Set(Settings {
+            speed: 100.1,
+            ..fresh
+        }),
+        Call::Set(fresh),
+        frames(silence, crowd(FULL), 0, 3),
+    ]
+}

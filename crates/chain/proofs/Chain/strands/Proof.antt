@@ -1,0 +1,56 @@
+-- `Chain::strands` meets its contract: the filters of both, then what follows for each.
+use borrow.Author.Needs.{needs}
+use Rattle.chain.specs.Lanes.{strandsOf, weighedOf, bandedOf}
+use Rattle.chain.proofs.Chain.strands.Statement.{statement}
+use Rattle.chain.proofs.Chain.strands.Tie as tie
+
+start-requires : tie.Need-start-requires
+start-requires c κs = search needs
+
+start-requires-2 : tie.Need-start-requires-2
+start-requires-2 c κs = search needs
+
+weigh-requires : tie.Need-weigh-requires
+weigh-requires c κs = search needs
+
+no-outputs-requires : tie.Need-no-outputs-requires
+no-outputs-requires c κs = search needs
+
+no-outputs-requires-2 : tie.Need-no-outputs-requires-2
+no-outputs-requires-2 c κs = search needs
+
+begin-requires : tie.Need-begin-requires
+begin-requires c κs = search needs
+
+begin-requires-2 : tie.Need-begin-requires-2
+begin-requires-2 c κs = search needs
+
+band-requires : tie.Need-band-requires
+band-requires c κs =
+    let w = c .before .before .before .before .before .before .before .before .before .before .before .before .before .before .before .before .before .before .before .before .pre in
+    (w .0, w .1, c .before .before .before .before .before .no-outputs .ensures, c .before .before .before .before .no-outputs2 .ensures)
+
+finished-requires : tie.Need-finished-requires
+finished-requires c κs = search needs
+
+finished-requires-2 : tie.Need-finished-requires-2
+finished-requires-2 c κs = search needs
+
+returns : tie.Need-returns
+unfolding strandsOf weighedOf bandedOf
+returns c =
+    simp (
+      c .finished2 .ensures,
+      c .before .before .finished .ensures,
+      c .before .before .before .before .before .before .before .before .band .ensures .0,
+      c .before .before .before .before .before .before .before .before .band .ensures .1,
+      c .before .before .before .before .before .before .before .before .band .ensures .2,
+      c .before .before .before .before .before .before .before .before .before .before .before .before .before .before .before .weigh .ensures,
+      c .before .before .before .before .before .before .before .before .before .before .before .begin2 .ensures,
+      c .before .before .before .before .before .before .before .before .before .before .before .before .begin .ensures,
+      c .before .before .before .before .before .before .before .before .before .before .before .before .before .before .before .before .start2 .ensures,
+      c .before .before .before .before .before .before .before .before .before .before .before .before .before .before .before .before .before .start .ensures,
+    )
+
+pub strands-spec : {M : Type 1} → statement M
+strands-spec = tie.close (tie.spec start-requires start-requires-2 weigh-requires no-outputs-requires no-outputs-requires-2 begin-requires begin-requires-2 band-requires finished-requires finished-requires-2 returns)

@@ -1,0 +1,23 @@
+-- `finished` meets its contract: level, detector, then the decision.
+use mathlib.Core.Path.{sym}
+use borrow.Author.Needs.{needs}
+use Rattle.chain.specs.Lanes.{finishedOf}
+use Rattle.chain.proofs.finished.Statement.{statement}
+use Rattle.chain.proofs.finished.Tie as tie
+
+finish-requires : tie.Need-finish-requires
+finish-requires c κs = search needs
+
+finish-requires-2 : tie.Need-finish-requires-2
+finish-requires-2 c κs = search needs
+
+finish-requires-3 : tie.Need-finish-requires-3
+finish-requires-3 c κs = search needs
+
+returns : tie.Need-returns
+unfolding finishedOf
+returns c =
+    simp (sym (c .before .before .before .finish .ensures), sym (c .before .finish2 .ensures), sym (c .finish3 .ensures))
+
+pub finished-spec : {M : Type 1} → statement M
+finished-spec = tie.close (tie.spec finish-requires finish-requires-2 finish-requires-3 returns)

@@ -1,0 +1,76 @@
+// The customer's calls on a chain: a frame, a settings call, a reset, a save, a restore. Each is total: it gets an answer or one refusal.
+// A contract says the call's result by its definition, and that the result is what the port of the demands does.
+ghost use mathlib.Core.Path.{_≡_};
+ghost use Rattle.demands.specs.Calls.{event, save, restore};
+ghost use Rattle.demands.specs.Demands.{Demands};
+ghost use Rattle.chain.specs.Chain.{freshOf, frameOf, setOf, resetOf};
+ghost use Rattle.chain.specs.Rules.{Asked, frame, settings, reset, rules, afterFrame, afterChange};
+ghost use Rattle.chain.specs.Rust.{rust};
+ghost use Rattle.chain.specs.Loudness.{loudness};
+ghost use Rattle.image.specs.Image.{saveVerdict, savedIn, restoreOf};
+ghost use Rattle.freightpetal.specs.Dead.{NoDeadUnits};
+ghost use Rattle.image.specs.Port.{images, port};
+ghost use Rattle.freightpetal.specs.Steps.{afterSave, afterRestore};
+ghost use Rattle.freightpetal.specs.Images.{ImageLaws};
+use chain::Chain;
+use chain::Changed;
+use chain::Framed;
+use chain::Settings;
+use chain::Verdict;
+
+// A fresh chain.
+pub fn new() -> Chain
+    ensures { λ r. ⌜ r ≡ freshOf ⌝ }
+{
+    Chain::new()
+}
+
+// One frame, 480 samples of the key and of the bed. Refusals 1, 2, 4, 5.
+pub fn frame(c: Chain, key: &[f32], bed: &[f32]) -> Framed
+    ensures { λ r. ⌜ (r ≡ frameOf c (now (key .entry)) (now (bed .entry))) × (afterFrame r ≡ port c (event (frame (now (key .entry)) (now (bed .entry))))) ⌝ }
+{
+    c.frame(key, bed)
+}
+
+// All settings are replaced. Refusal 3.
+pub fn set(c: Chain, s: Settings) -> Changed
+    ensures { λ r. ⌜ (r ≡ setOf c s) × ((a : Asked) → a .values ≡ s → afterChange r ≡ port c (event (settings a))) ⌝ }
+{
+    c.set(s)
+}
+
+// The key strand (0) or the bed strand (1) begins anew. Refusal 9.
+pub fn reset(c: Chain, strand: u64) -> Changed
+    ensures { λ r. ⌜ (r ≡ resetOf c strand) × (afterChange r ≡ port c (event (reset strand))) ⌝ }
+{
+    c.reset(strand)
+}
+
+// The chain's image, into 10,752 lent bytes. Refusal 6.
+pub fn save(c: Chain, lent: &mut [u8]) -> Verdict
+    ensures { λ r. ⌜ (r ≡ saveVerdict (now (lent .entry))) × (now (lent .exit) ≡ savedIn c (now (lent .entry))) × (afterSave c r (now (lent .exit)) ≡ port c (save (now (lent .entry)))) ⌝ }
+{
+    image::save(c, lent)
+}
+
+// The chain that the bytes are the image of; or the chain as it was. Refusals 6, 7, 8.
+pub fn restore(c: Chain, bytes: &[u8]) -> Changed
+    ensures { λ r. ⌜ (r ≡ restoreOf c (now (bytes .entry))) × (afterRestore r (now (bytes .entry)) ≡ port c (restore (now (bytes .entry)))) ⌝ }
+{
+    image::restore(c, bytes)
+}
+
+// The three demands over every list of calls. The function does nothing: its contract is the promise.
+pub fn demands()
+    ensures { λ _. ⌜ Demands rules images port rust loudness ⌝ }
+{}
+
+// What is promised of images beside the demands.
+pub fn image_laws()
+    ensures { λ _. ⌜ ImageLaws ⌝ }
+{}
+
+// No unit that meets the demands writes one fixed image, or leaves a chain as it is at every restore.
+pub fn dead_units()
+    ensures { λ _. ⌜ NoDeadUnits ⌝ }
+{}

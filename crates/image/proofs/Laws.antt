@@ -1,0 +1,176 @@
+-- The laws of images: what is saved comes back, what is accepted is a valid chain's image, and a refusal changes nothing.
+use mathlib.Core.Path.{_≡_, refl, sym, ap, _∙_}
+use mathlib.Core.Bool.{Bool, true, false, not, cond}
+use mathlib.Core.List.{List, [], _∷_}
+use Prim.Native.Nat.{ℕ, _/_, _*_, _<_}
+use native.Mathlib.Decide.{decLt}
+use native.Mathlib.Omega.{arith}
+use borrow.Author.Tests.{eq-eqb, ne-eqb, eqb-true}
+use lib.Dec.{eqb}
+use lib.ListN.{length}
+use lib.Seq.{ext-getD}
+use Rattle.blocks.specs.Lists.{Words}
+use Rattle.blocks.specs.Words.{blockWords, firstBad}
+use Rattle.blocks.specs.Image.{payloadOf, OneWord}
+use Rattle.blocks.proofs.Lists.{same-refl, same-eq}
+use Rattle.blocks.proofs.Images as images
+use Rattle.blocks.proofs.Single.{one-word-caught}
+use Rattle.codec.proofs.Accepted.{dec-enc, enc-inj}
+use Rattle.demands.specs.declared.Refusal.{Refusal}
+use Rattle.demands.specs.declared.Refusal.the-variants.{WrongLength, BadCheck, ForeignImage}
+use Rattle.demands.specs.Table.{numberOf, InTable, _means_, firstNumber}
+use Rattle.demands.specs.Calls.{refusal, passed, done, Step, gets}
+use Rattle.chain.specs.declared.Chain.{Chain}
+use Rattle.chain.specs.declared.Changed.{Changed}
+use Rattle.chain.specs.Chain.{changed, unchanged}
+use Rattle.chain.specs.Valid.{Valid}
+use Rattle.image.specs.Layout.{blockCount, imageBytes, payloadWords}
+use Rattle.image.specs.Chain.{strandSettings, duck, numbers, settings, loops, chain}
+use Rattle.image.specs.Image.{wordsOf, image, readAs, ours, refusesImage, saveVerdict, savedIn, restoreOf}
+use Rattle.image.specs.Port.{replyOf, onSave, onRestore, refusesSave}
+use Rattle.strand_image.specs.Strand.{strand, front, state, filters, powers, decimated, floor, smoothed, window, minima, history, decision, counts, power}
+use Rattle.image.proofs.Valid.{chain-valid, valid-chain}
+
+-- ---- the words of a valid chain
+
+module _ (c : Chain) (v : Valid c) where
+  pub words-length : length (wordsOf c) ≡ payloadWords
+  unfolding wordsOf chain settings numbers strandSettings duck loops strand front state filters powers decimated floor smoothed window minima history decision counts power
+  words-length = chain .size-is c (chain .shaped c (valid-chain c v))
+
+  pub words-small : Words (wordsOf c)
+  unfolding wordsOf
+  words-small = chain .small c (valid-chain c v)
+
+  pub image-length : length (image c) ≡ imageBytes
+  unfolding image
+  image-length = images.image-length (wordsOf c) blockCount
+
+  pub image-checks : firstBad (image c) ≡ blockCount
+  unfolding image
+  image-checks = images.image-first (wordsOf c) words-small blockCount
+
+  -- it is read from its image
+  pub read-image : readAs (image c) ≡ c
+  unfolding readAs image
+  read-image =
+      ap (λ (l : List ℕ). chain .dec l 0) (images.image-payload (wordsOf c) words-small blockCount words-length)
+      ∙ (unfold wordsOf in dec-enc chain c (valid-chain c v))
+
+  image-ours : ours (image c) ≡ true
+  unfolding ours
+  image-ours = rw read-image (same-refl (image c))
+
+  -- its image is accepted
+  pub image-accepted : refusesImage (image c) ≡ 0
+  unfolding refusesImage
+  image-accepted = rw (eq-eqb (length (image c)) imageBytes image-length, eq-eqb (firstBad (image c)) blockCount image-checks, image-ours)
+
+-- two valid chains have one image exactly where they are equal
+pub same-image : (s t : Chain) → Valid s → Valid t → (image s ≡ image t → s ≡ t) × (s ≡ t → image s ≡ image t)
+same-image s t v u = ((λ e. sym (read-image s v) ∙ ap readAs e ∙ read-image t u), λ e. ap image e)
+
+-- the words of a valid chain tell it from any other
+pub bits-inj : (s t : Chain) → Valid s → Valid t → wordsOf s ≡ wordsOf t → s ≡ t
+unfolding wordsOf
+bits-inj s t v u e = enc-inj chain s t (valid-chain s v) (valid-chain t u) e
+
+-- ---- some bytes
+
+-- document 01's number by the three tests: length, checks, words
+abbrev pub ruling : Bool → Bool → Bool → ℕ
+ruling x y z = firstNumber (not x means WrongLength ∷ not y means BadCheck ∷ not z means ForeignImage ∷ [])
+
+abbrev after : Chain → Chain → Bool → Bool → Bool → Changed
+after old new x y z = cond x (cond y (cond z (changed new) (unchanged old ForeignImage)) (unchanged old BadCheck)) (unchanged old WrongLength)
+
+module _ (b : List ℕ) where
+  -- what is accepted passes all three
+  accepted : refusesImage b ≡ 0 → (length b ≡ imageBytes) × (firstBad b ≡ blockCount) × (ours b ≡ true)
+  unfolding refusesImage
+  accepted = go (eqb (length b) imageBytes) (eqb (firstBad b) blockCount) (ours b) refl refl refl
+    where
+      go : (x y z : Bool) → eqb (length b) imageBytes ≡ x → eqb (firstBad b) blockCount ≡ y → ours b ≡ z → ruling x y z ≡ 0
+          → (length b ≡ imageBytes) × (firstBad b ≡ blockCount) × (ours b ≡ true)
+      go true true true p q r e = (eqb-true (length b) imageBytes p, eqb-true (firstBad b) blockCount q, r)
+      go true true false p q r e = absurd (omega arith)
+      go true false z p q r e = absurd (omega arith)
+      go false y z p q r e = absurd (omega arith)
+
+  -- whatever the bytes, a valid chain is read
+  pub read-valid : Valid (readAs b)
+  read-valid = chain-valid (readAs b) (unfold readAs in chain .sound (payloadOf b) 0)
+
+  -- accepted bytes are the image of the chain that is read
+  pub read-accepted : refusesImage b ≡ 0 → image (readAs b) ≡ b
+  read-accepted e = same-eq (image (readAs b)) b (unfold ours in accepted e .2)
+
+  pub accepted-image : refusesImage b ≡ 0 → (s : Chain) × Valid s × (image s ≡ b)
+  accepted-image e = (readAs b, read-valid, read-accepted e)
+
+  module _ (old : Chain) where
+    pub restore-accepted : refusesImage b ≡ 0 → restoreOf old b ≡ changed (readAs b)
+    unfolding restoreOf
+    restore-accepted e = let a = accepted e in rw (eq-eqb (length b) imageBytes (a .0), eq-eqb (firstBad b) blockCount (a .1), a .2)
+
+    -- a refusal changes nothing
+    pub restore-unchanged : (refusesImage b ≡ 0 → ⊥) → (r : Refusal) × (refusesImage b ≡ numberOf r) × (restoreOf old b ≡ unchanged old r)
+    unfolding refusesImage restoreOf
+    restore-unchanged = go (eqb (length b) imageBytes) (eqb (firstBad b) blockCount) (ours b)
+      where
+        go : (x y z : Bool) → (ruling x y z ≡ 0 → ⊥) → (r : Refusal) × (ruling x y z ≡ numberOf r) × (after old (readAs b) x y z ≡ unchanged old r)
+        go true true true h = absurd (h refl)
+        go true true false h = (ForeignImage, refl, refl)
+        go true false z h = (BadCheck, refl, refl)
+        go false y z h = (WrongLength, refl, refl)
+
+  pub image-number : (refusesImage b ≡ 0 → ⊥) → InTable (refusesImage b)
+  image-number h = let u = restore-unchanged (readAs b) h in (u .0, u .1)
+
+-- a saved chain comes back, whatever chain was there
+pub restore-image : (old c : Chain) → Valid c → restoreOf old (image c) ≡ changed c
+restore-image old c v = restore-accepted (image c) old (image-accepted c v) ∙ ap {B = Changed} changed (read-image c v)
+
+-- ---- a change within a single word of an accepted image is always caught, with 7
+
+module _ (k : ℕ) (b b′ : List ℕ) (one : OneWord k b b′) (e : refusesImage b ≡ 0) where
+  inside : k < blockWords * blockCount
+  inside = let l = accepted b e .0 in elim (decLt k (blockWords * blockCount)) [
+    | yes h ↦ h
+    | no h ↦ absurd (one .differ (ext-getD 0 b′ b (one .size) (λ i g. one .elsewhere i (λ z. h (omega (arith, one .size, l))))))
+  ]
+
+  pub one-word-refused : refusesImage b′ ≡ numberOf BadCheck
+  unfolding refusesImage
+  one-word-refused =
+      let a = accepted b (unfold refusesImage in e) in
+      let f : firstBad b′ ≡ k / blockWords = one-word-caught k b b′ one blockCount (a .0) (a .1) in
+      let n : firstBad b′ ≡ blockCount → ⊥ = λ q. omega (arith, inside) in
+      rw (eq-eqb (length b′) imageBytes (one .size ∙ a .0), ne-eqb (firstBad b′) blockCount n)
+
+-- ---- the two calls as steps of a port
+
+module _ {Answer : Type 0} (s : Chain) where
+  pub saved : (l : List ℕ) → refusesSave l ≡ 0 → _≡_ {A = Step Chain Answer} (onSave s l) (gets (passed done) (image s) s)
+  unfolding saveVerdict savedIn
+  saved l = go (eqb (length l) imageBytes) refl
+    where
+      go : (x : Bool) → eqb (length l) imageBytes ≡ x → cond x 0 (numberOf WrongLength) ≡ 0 → _≡_ {A = Step Chain Answer} (onSave s l) (gets (passed done) (image s) s)
+      go true q e = rw q
+      go false q e = absurd (omega arith)
+
+  pub save-refused : (l : List ℕ) → (refusesSave l ≡ 0 → ⊥) → _≡_ {A = Step Chain Answer} (onSave s l) (gets (refusal (refusesSave l)) l s)
+  unfolding saveVerdict savedIn
+  save-refused l = go (eqb (length l) imageBytes) refl
+    where
+      go : (x : Bool) → eqb (length l) imageBytes ≡ x → (cond x 0 (numberOf WrongLength) ≡ 0 → ⊥) → _≡_ {A = Step Chain Answer} (onSave s l) (gets (refusal (refusesSave l)) l s)
+      go true q h = absurd (h refl)
+      go false q h = rw q
+
+  pub restored : (t : Chain) → Valid t → _≡_ {A = Step Chain Answer} (onRestore s (image t)) (gets (passed done) (image t) t)
+  restored t v = ap (λ (r : Changed). gets (replyOf (r .verdict)) (image t) (r .chain)) (restore-image s t v)
+
+  pub restore-refused : (b : List ℕ) → (refusesImage b ≡ 0 → ⊥) → _≡_ {A = Step Chain Answer} (onRestore s b) (gets (refusal (refusesImage b)) b s)
+  restore-refused b h =
+      let u = restore-unchanged b s h in
+      ap (λ (r : Changed). gets (replyOf (r .verdict)) b (r .chain)) (u .2) ∙ ap (λ (n : ℕ). gets (refusal n) b s) (sym (u .1))

@@ -1,0 +1,294 @@
+// Whole frames, settings calls and resets through a chain, against what the Rust answered. The file is calls up to its end, each its
+// number, its arguments, then what it answers: a code (0 passed, else the refusal), and 41 words after a frame's code 0 where they are
+// recorded. compare/src/calls.rs has the arguments.
+use super::bits;
+use super::decision;
+use super::ducker;
+use super::input::BUFFER;
+use super::replay;
+use super::replay::Replay;
+use super::signal;
+use super::signal::Signal;
+use chain::Chain;
+use chain::Changed;
+use chain::Outcome;
+use chain::Settings;
+use chain::Verdict;
+
+// Words of an answer.
+const ANSWER: usize = 41;
+
+// Samples that a strand of an odd frame has room for.
+const ROOM: usize = 512;
+
+// What has been compared, the chain for the next call, and how many calls its list had.
+struct Run {
+    r: Replay,
+    chain: Chain,
+    place: u64,
+}
+
+// Two strands for frames that follow one another.
+struct Given {
+    key: Signal,
+    bed: Signal,
+    every: u64, // frames from one whole answer to the next
+}
+
+fn frame_code(o: Outcome) -> u64 {
+    match o {
+        Outcome::Passed(_) => 0,
+        Outcome::Refused(refusal) => demands::number(refusal),
+    }
+}
+
+fn call_code(v: Verdict) -> u64 {
+    match v {
+        Verdict::Passed => 0,
+        Verdict::Refused(refusal) => demands::number(refusal),
+    }
+}
+
+// The ducker's words, the key's, the bed's. Zeros stand for those of a frame that the port refuses.
+fn compare_answer(
+    r: Replay,
+    name: &[u8],
+    buffer: &mut [u8; BUFFER],
+    place: u64,
+    o: Outcome,
+) -> Replay {
+    match o {
+        Outcome::Passed(a) => {
+            let reduction = a.reduction;
+            let status = a.status;
+            let key = a.key;
+            let bed = a.bed;
+            let ducked = r.compare(name, buffer, place, &ducker::answer(reduction, status));
+            let keyed = ducked.compare(name, buffer, place, &decision::answer(key));
+            keyed.compare(name, buffer, place, &decision::answer(bed))
+        }
+        Outcome::Refused(_) => r.compare(name, buffer, place, &[0u64; ANSWER]),
+    }
+}
+
+// A frame's code, and its answer where that is recorded.
+fn compare(
+    before: Replay,
+    name: &[u8],
+    buffer: &mut [u8; BUFFER],
+    place: u64,
+    o: Outcome,
+    whole: bool,
+) -> Replay {
+    let mut recorded = [0u64; 1];
+    let read = before.words(buffer, &mut recorded);
+    let r = read.judge(name, place, recorded[0], frame_code(o));
+    if whole & (recorded[0] == 0) {
+        let answered = compare_answer(r, name, buffer, place, o);
+        return answered.count();
+    }
+    r.count()
+}
+
+// A frame.
+fn step(
+    before: Run,
+    name: &[u8],
+    buffer: &mut [u8; BUFFER],
+    key: &[f32],
+    bed: &[f32],
+    whole: bool,
+) -> Run {
+    let chain = before.chain;
+    let r = before.r;
+    let f = chain.frame(key, bed);
+    let outcome = f.outcome;
+    let next = f.chain;
+    Run {
+        r: compare(r, name, buffer, before.place, outcome, whole),
+        chain: next,
+        place: std::num::wrapping_add_u64(before.place, 1),
+    }
+}
+
+// Whether the whole answer of frame i is recorded.
+fn whole(i: u64, every: u64) -> bool {
+    if every == 0 {
+        return false;
+    }
+    i % every == 0
+}
+
+// Frame i, from sample `first` on.
+fn frame(before: Run, name: &[u8], buffer: &mut [u8; BUFFER], g: Given, first: u64, i: u64) -> Run {
+    let key_signal = g.key;
+    let bed_signal = g.bed;
+    let key = key_signal.frame(first);
+    let bed = bed_signal.frame(first);
+    step(before, name, buffer, &key, &bed, whole(i, g.every))
+}
+
+fn play(
+    mut run: Run,
+    name: &[u8],
+    buffer: &mut [u8; BUFFER],
+    g: Given,
+    mut first: u64,
+    count: u64,
+) -> Run {
+    let mut i = 0;
+    while i < count {
+        run = frame(run, name, buffer, g, first, i);
+        if run.r.input.ended {
+            return run;
+        }
+        first = signal::next_frame(first);
+        i += 1;
+    }
+    run
+}
+
+fn frames(mut run: Run, name: &[u8], buffer: &mut [u8; BUFFER]) -> Run {
+    let mut w = [0u64; 9];
+    let before = run.r;
+    run.r = before.words(buffer, &mut w);
+    let g = Given {
+        key: Signal::new(w[0], w[1], w[2]),
+        bed: Signal::new(w[3], w[4], w[5]),
+        every: w[8],
+    };
+    play(run, name, buffer, g, w[6], w[7])
+}
+
+// A strand of an odd frame. Its sample `at` is replaced where `replaced` says so.
+fn strand(s: Signal, first: u64, replaced: bool, at: u64, word: u64) -> [f32; ROOM] {
+    let mut x = [0.0f32; ROOM];
+    s.fill(first, &mut x);
+    if replaced {
+        if at < ROOM as u64 {
+            x[at as usize] = bits::value32(word);
+        }
+    }
+    x
+}
+
+// The first k and b samples of the strands as a frame.
+fn cut(
+    mut run: Run,
+    name: &[u8],
+    buffer: &mut [u8; BUFFER],
+    key: &[f32],
+    bed: &[f32],
+    k: usize,
+    b: usize,
+) -> Run {
+    if k <= key.len() {
+        if b <= bed.len() {
+            return step(run, name, buffer, &key[..k], &bed[..b], true);
+        }
+    }
+    let r = run.r;
+    run.r = r.stop();
+    run
+}
+
+// One frame of any lengths, in which a sample may be replaced.
+fn odd(mut run: Run, name: &[u8], buffer: &mut [u8; BUFFER]) -> Run {
+    let mut w = [0u64; 12];
+    let before = run.r;
+    run.r = before.words(buffer, &mut w);
+    let key_signal = Signal::new(w[0], w[1], w[2]);
+    let bed_signal = Signal::new(w[3], w[4], w[5]);
+    let key = strand(key_signal, w[6], w[9] == 0, w[10], w[11]);
+    let bed = strand(bed_signal, w[6], w[9] == 1, w[10], w[11]);
+    cut(run, name, buffer, &key, &bed, w[7] as usize, w[8] as usize)
+}
+
+// The code of a settings call or of a reset.
+fn changed(before: Run, name: &[u8], buffer: &mut [u8; BUFFER], c: Changed) -> Run {
+    let r = before.r;
+    let next = c.chain;
+    let verdict = c.verdict;
+    Run {
+        r: r.answer(name, buffer, before.place, &[call_code(verdict)]),
+        chain: next,
+        place: std::num::wrapping_add_u64(before.place, 1),
+    }
+}
+
+fn set(mut run: Run, name: &[u8], buffer: &mut [u8; BUFFER]) -> Run {
+    let mut strands = [0u64; 6];
+    let mut duck = [0u64; ducker::SETTINGS];
+    let before = run.r;
+    let half = before.words(buffer, &mut strands);
+    run.r = half.words(buffer, &mut duck);
+    let settings = Settings {
+        key: decision::settings(strands[0], strands[1], strands[2]),
+        bed: decision::settings(strands[3], strands[4], strands[5]),
+        duck: ducker::settings(&duck),
+    };
+    let chain = run.chain;
+    changed(run, name, buffer, chain.set(settings))
+}
+
+fn reset(mut run: Run, name: &[u8], buffer: &mut [u8; BUFFER]) -> Run {
+    let mut w = [0u64; 1];
+    let before = run.r;
+    run.r = before.words(buffer, &mut w);
+    let chain = run.chain;
+    changed(run, name, buffer, chain.reset(w[0]))
+}
+
+// A list begins with a fresh chain.
+fn fresh(r: Replay) -> Run {
+    Run {
+        r: r.begin(),
+        chain: Chain::new(),
+        place: 0,
+    }
+}
+
+// The next call, where there is one.
+fn next_call(mut run: Run, name: &[u8], buffer: &mut [u8; BUFFER]) -> Run {
+    let mut call = [0u64; 1];
+    let before = run.r;
+    let r = before.first_words(buffer, &mut call);
+    run.r = r;
+    if r.input.ended {
+        return run;
+    }
+    match call[0] {
+        0 => fresh(r),
+        1 => frames(run, name, buffer),
+        2 => odd(run, name, buffer),
+        3 => set(run, name, buffer),
+        4 => reset(run, name, buffer),
+        _ => {
+            run.r = r.stop();
+            run
+        }
+    }
+}
+
+fn all_calls(name: &[u8], buffer: &mut [u8; BUFFER]) -> Replay {
+    let mut run = Run {
+        r: replay::open(name, buffer),
+        chain: Chain::new(),
+        place: 0,
+    };
+    let mut turns = u64::MAX;
+    while 0 < turns {
+        run = next_call(run, name, buffer);
+        if run.r.input.ended {
+            return run.r;
+        }
+        turns -= 1;
+    }
+    run.r
+}
+
+pub fn replay(name: &[u8]) {
+    let mut buffer = io::buffer();
+    let r = all_calls(name, &mut buffer);
+    r.finish(name, b" lists, ", b" calls, ");
+}

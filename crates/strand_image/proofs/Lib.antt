@@ -1,0 +1,5 @@
+pub mod Runs
+pub mod Rules
+pub mod Valid
+pub mod Again
+pub mod Words
