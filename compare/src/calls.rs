@@ -1,4 +1,5 @@
-//! Lists of calls to a chain, as words with the answers that the Rust gives.
+//! Lists of calls to a chain; and those without images as words, with the answers that
+//! the Rust gives (replay.rs has lists with images).
 //!
 //! A call is its number, its arguments, then what it answers:
 //! - 0: a fresh chain. No answer.
@@ -11,13 +12,13 @@
 //!   Code, and after a 0 the 41 words.
 //! - 3, 12 settings: code.
 //! - 4, strand: a reset. Code.
-//! - 5: a save. 1,323 payload words.
 
 use crate::driver::{Chain, Refusal, Settings};
+use crate::image::{self, Edit};
 use crate::signals::Signal;
 use crate::words::Words;
 
-#[derive(Debug, Clone, Copy)]
+#[derive(Debug, Clone)]
 pub enum Call {
     Fresh,
     Frames {
@@ -36,7 +37,34 @@ pub enum Call {
     },
     Set(Settings),
     Reset(u64),
-    Save,
+    /// Into a buffer of this many bytes.
+    Save(usize),
+    Restore(Lent),
+}
+
+/// The bytes that a restore gets.
+#[derive(Debug, Clone)]
+pub enum Lent {
+    /// What a save of the list wrote (its accepted saves count from 0), edited.
+    Saved(usize, Vec<Edit>),
+    /// The image around these payload words.
+    Payload(Vec<u64>),
+    Bytes(Vec<u8>),
+}
+
+impl Lent {
+    /// `saves`: what the list's accepted saves wrote.
+    pub fn bytes(&self, saves: &[Vec<u8>]) -> Vec<u8> {
+        match self {
+            Lent::Saved(number, edits) => {
+                let mut image = saves[*number].clone();
+                edits.iter().for_each(|edit| edit.apply(&mut image));
+                image
+            }
+            Lent::Payload(words) => image::around(words),
+            Lent::Bytes(bytes) => bytes.clone(),
+        }
+    }
 }
 
 /// The sample `index` of `strand` is `value`.
@@ -45,6 +73,17 @@ pub struct Replaced {
     pub strand: usize,
     pub index: usize,
     pub value: f32,
+}
+
+/// Frames of two signals, all answered whole.
+pub fn frames(key: Signal, bed: Signal, first: u64, count: u64) -> Call {
+    Call::Frames {
+        key,
+        bed,
+        first,
+        count,
+        every: 1,
+    }
 }
 
 impl Call {
@@ -124,10 +163,7 @@ pub fn run(calls: &[Call], to: &mut Words) {
                 to.put_all(&[4, strand]);
                 put_code(chain.reset(strand), to);
             }
-            Call::Save => {
-                to.put(5);
-                to.put_all(&chain.payload());
-            }
+            Call::Save(_) | Call::Restore(_) => panic!("no image is recorded"),
         }
     }
 }

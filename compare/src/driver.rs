@@ -1,5 +1,5 @@
 //! Document 01's chain around the Rust: settings, resets, the wiring of a frame
-//! (module 5), refusals, and answers by their bits.
+//! (module 5), refusals, and answers by their bits. image.rs has saves and restores.
 
 use crate::auto::level::Reading;
 use crate::auto::ratio::{Inputs, RatioStatus, State};
@@ -7,7 +7,7 @@ use crate::auto::vad::{Vad, VadState, FRAME};
 use crate::mix::auto::{ChannelDepth, Duck, DuckMode, Ratio, VadDetector, VadSettings};
 use crate::mix::model::Db;
 use crate::standins;
-use crate::words::Words;
+use crate::words::{Reader, Words};
 
 /// A refusal's number.
 pub type Refusal = u64;
@@ -58,6 +58,13 @@ fn stored(x: f64, (low, high): (f64, f64)) -> Result<f64, Refusal> {
     }
 }
 
+/// A setting of an image: in range, and no negative zero.
+fn setting(from: &mut Reader, (low, high): (f64, f64)) -> Option<f64> {
+    let x = from.f64()?;
+    let negative_zero = x == 0.0 && x.is_sign_negative();
+    (low <= x && x <= high && !negative_zero).then_some(x)
+}
+
 impl Settings {
     fn duck_numbers(&self) -> [f64; 4] {
         [
@@ -99,6 +106,25 @@ impl Settings {
         to.put_flag(self.enabled);
         to.put_numbers(&self.duck_numbers());
         to.put_flag(self.bed_voice);
+    }
+
+    /// Of an image's 12 words.
+    pub fn load(from: &mut Reader) -> Option<Self> {
+        let mut strands = [[0.0; 3]; 2];
+        for strand in &mut strands {
+            for (x, range) in strand.iter_mut().zip(STRAND_RANGES) {
+                *x = setting(from, range)?;
+            }
+        }
+        Some(Self {
+            strands,
+            enabled: from.flag()?,
+            target_lu: setting(from, DUCK_RANGES[0])?,
+            overvoice_lu: setting(from, DUCK_RANGES[1])?,
+            max_reduction_db: setting(from, DUCK_RANGES[2])?,
+            speed: setting(from, DUCK_RANGES[3])?,
+            bed_voice: from.flag()?,
+        })
     }
 
     pub fn vad(&self, strand: usize) -> VadSettings {
@@ -205,6 +231,7 @@ struct Running {
     ducker: State,
 }
 
+#[derive(Clone)]
 pub struct Chain {
     settings: Settings,
     vad_settings: [VadSettings; 2],
@@ -214,16 +241,7 @@ pub struct Chain {
 
 impl Default for Chain {
     fn default() -> Self {
-        let settings = Settings::default();
-        Self {
-            settings,
-            vad_settings: [settings.vad(0), settings.vad(1)],
-            duck: settings.duck(),
-            running: Running {
-                strands: [Vad::default(), Vad::default()],
-                ducker: State::new(&settings.duck()),
-            },
-        }
+        Self::new(Settings::default(), [Vad::default(), Vad::default()])
     }
 }
 
@@ -254,6 +272,20 @@ impl Running {
 }
 
 impl Chain {
+    /// The ducker is fresh.
+    fn new(settings: Settings, strands: [Vad; 2]) -> Self {
+        let duck = settings.duck();
+        Self {
+            settings,
+            vad_settings: [settings.vad(0), settings.vad(1)],
+            running: Running {
+                strands,
+                ducker: State::new(&duck),
+            },
+            duck,
+        }
+    }
+
     /// A frame as the Rust runs it, without tests and copies (for timing).
     pub fn frame_untested(&mut self, key: &[f32], bed: &[f32]) -> Answer {
         self.running
@@ -302,14 +334,19 @@ impl Chain {
         Ok(())
     }
 
-    /// The 1,323 payload words of document 01's image.
-    pub fn payload(&self) -> Vec<u64> {
-        let mut words = Words::default();
-        words.put(1);
-        self.settings.store(&mut words);
-        self.running.store(&mut words);
-        words.put_zeros(50);
-        words.words
+    /// The payload of document 01's image between its edition and its last zeros.
+    pub fn store(&self, to: &mut Words) {
+        self.settings.store(to);
+        self.running.store(to);
+    }
+
+    /// The chain of these words; none where one of them breaks an image rule. What no
+    /// image holds is fresh: the next frame sets it before anything reads it.
+    pub fn load(from: &mut Reader) -> Option<Self> {
+        let settings = Settings::load(from)?;
+        let mut chain = Self::new(settings, [Vad::load(from)?, Vad::load(from)?]);
+        chain.running.ducker.set_numbers(from.numbers()?);
+        Some(chain)
     }
 }
 

@@ -1,4 +1,4 @@
-//! The lists of calls that are recorded for whole frames and images.
+//! The lists of calls that are recorded for whole frames.
 
 use crate::calls::{Call, Replaced};
 use crate::driver::{Settings, DUCK_RANGES, STRAND_RANGES};
@@ -15,16 +15,24 @@ fn frames(key: Signal, bed: Signal, first: u64, count: u64, every: u64) -> Call 
     }
 }
 
-fn silence() -> Signal {
+pub fn silence() -> Signal {
     Signal::new(SILENCE, 0, FULL)
 }
 
-fn talker() -> Signal {
+pub fn talker() -> Signal {
     Signal::new(SPEECH, 400, FULL)
 }
 
-fn noise(scale: f32) -> Signal {
+pub fn noise(scale: f32) -> Signal {
     Signal::new(NOISE, 9, scale)
+}
+
+/// Fresh settings but for both thresholds, holds of 20 ms and open gates.
+pub fn thresholds(key: f64, bed: f64) -> Settings {
+    Settings {
+        strands: [[key, 20.0, -100.0], [bed, 20.0, -100.0]],
+        ..Settings::default()
+    }
 }
 
 /// Speech over a crowd, both talking, the bed talking alone, and back.
@@ -166,7 +174,7 @@ fn square() -> Signal {
 }
 
 /// Refusals 1, 2, 3, 4 and 9 in turn between stretches of speech: they change
-/// nothing. (Refusal 5 takes 2^32 onsets, so no list meets it.)
+/// nothing. (Refusal 5 takes 2^32 onsets or an image with many; replay's lists meet it.)
 fn interrupted() -> Vec<Call> {
     let guest = Signal::new(NOISY_SPEECH, 333, LOW);
     let mut out = vec![Call::Fresh];
@@ -304,27 +312,6 @@ pub fn recorded() -> Vec<Call> {
     let random = &mut Random::new(2);
     for _ in 0..16 {
         out.extend(random_list(random, 12, 7));
-    }
-    out
-}
-
-/// The recorded images: saves after some seconds of several kinds.
-pub fn saved() -> Vec<Call> {
-    let minus = Signal::new(SILENCE, 0, -1.0);
-    let mut out = vec![
-        Call::Fresh,
-        Call::Save,
-        frames(minus, silence(), 0, 1, 1),
-        Call::Save,
-    ];
-    for count in [3, 22, 50, 250] {
-        out.extend([frames(talker(), noise(LOW), 0, count, 50), Call::Save]);
-    }
-    out.extend([Call::Reset(0), Call::Save]);
-    let random = &mut Random::new(3);
-    for _ in 0..8 {
-        out.extend(random_list(random, 8, 50));
-        out.push(Call::Save);
     }
     out
 }

@@ -1,22 +1,14 @@
 //! The lists of calls that the program replay runs: the one that is kept, and random ones.
 
-use crate::calls::{Call, Replaced};
+use crate::calls::{frames, Call, Replaced};
 use crate::driver::Settings;
-use crate::lists::{random_settings, random_signal};
+use crate::image;
+use crate::lists::{noise, random_settings, random_signal, silence, talker, thresholds};
 use crate::random::Random;
 use crate::signals::*;
+use crate::{random_images, restores};
 
 const FRAME: usize = 480;
-
-fn frames(key: Signal, bed: Signal, first: u64, count: u64) -> Call {
-    Call::Frames {
-        key,
-        bed,
-        first,
-        count,
-        every: 1,
-    }
-}
 
 /// Values that a setting meets at its ends and outside its range.
 const EXTREMES: [f64; 22] = [
@@ -115,46 +107,71 @@ fn random_frames(random: &mut Random, first: u64, most: u64) -> Call {
     frames(key, bed, first, 1 + random.below(most.min(120)))
 }
 
-/// One list of `calls` calls on one chain, a frame a call: every signal, settings at and
-/// outside the ends of their ranges, resets, and frames that are refused.
+/// A save, one in ten into a buffer of a wrong length.
+fn random_save(random: &mut Random) -> Call {
+    let wrong = random.below(20_000) as usize;
+    Call::Save(match random.below(20) {
+        0 => random.pick(&[0, 1, image::BYTES - 1, image::BYTES + 1]),
+        1 => wrong,
+        _ => image::BYTES,
+    })
+}
+
+/// One list of at least `calls` calls on one chain, a frame a call: every signal,
+/// settings at and outside the ends of their ranges, resets, saves, restores of saves and
+/// of other bytes, and frames that are refused.
 pub fn random_list(random: &mut Random, calls: u64) -> Vec<Call> {
+    let strands = [0, 1, 0, 1, 0, 1, 2, 1 << 32, u64::MAX];
     let mut out = vec![Call::Fresh];
     let mut left = calls;
+    let mut saves = 0;
+    let mut own = Vec::new();
     let mut at = random.below(1 << 20);
     while left > 0 {
-        let call = match random.below(10) {
-            0..=1 => Call::Set(extreme_settings(random)),
-            2 => Call::Reset(random.pick(&[0, 1, 0, 1, 0, 1, 2, 1 << 32, u64::MAX])),
-            3..=4 => odd_frame(random, at),
-            _ => random_frames(random, at, left),
+        let some = match random.below(20) {
+            0..=1 => vec![Call::Set(extreme_settings(random))],
+            2 => vec![Call::Reset(random.pick(&strands))],
+            3..=4 => vec![odd_frame(random, at)],
+            5..=6 => vec![random_save(random)],
+            7..=12 => random_images::random(random, &own, at),
+            _ => vec![random_frames(random, at, left)],
         };
-        let count = match call {
-            Call::Frames { count, .. } => count,
-            _ => 1,
-        };
-        at += count * FRAME as u64;
-        left -= count;
-        out.push(call);
+        // A save that comes alone isn't of a foreign image's chain.
+        let alone = some.len() == 1;
+        for call in some {
+            let count = match call {
+                Call::Frames { count, .. } => count,
+                _ => 1,
+            };
+            if let Call::Save(image::BYTES) = call {
+                own.extend(alone.then_some(saves));
+                saves += 1;
+            }
+            at += count * FRAME as u64;
+            left = left.saturating_sub(count);
+            out.push(call);
+        }
     }
     out
 }
 
-/// The list that the program replay is held to: each state, each refusal that a list
-/// without images can meet, settings, resets.
+/// The list that the program replay is held to: each state, each refusal, settings,
+/// resets, saves and restores.
 pub fn kept() -> Vec<Call> {
+    let mut out = vec![Call::Fresh];
+    out.extend([restores::first(), without_images(), restores::kept()].concat());
+    out
+}
+
+/// The calls of that list in which no image is saved or restored.
+fn without_images() -> Vec<Call> {
     let fresh = Settings::default();
-    let thresholds = |key, bed| Settings {
-        strands: [[key, 20.0, -100.0], [bed, 20.0, -100.0]],
-        ..fresh
-    };
-    let silence = Signal::new(SILENCE, 0, FULL);
-    let talker = Signal::new(SPEECH, 400, FULL);
+    let [silence, talker] = [silence(), talker()];
     let other = Signal::new(NOISY_SPEECH, 333, FULL);
     let square = Signal::new(SQUARE, 96, LOUD);
-    let crowd = |scale| Signal::new(NOISE, 9, scale);
     let odd = |key, bed, replaced| Call::Odd {
         key: talker,
-        bed: crowd(LOW),
+        bed: noise(LOW),
         first: 48_000,
         lengths: [key, bed],
         replaced,
@@ -167,7 +184,6 @@ pub fn kept() -> Vec<Call> {
         })
     };
     vec![
-        Call::Fresh,
         frames(silence, silence, 0, 2),
         odd(479, 480, None),
         odd(480, 481, None),
@@ -176,7 +192,7 @@ pub fn kept() -> Vec<Call> {
         odd(480, 480, bad(1, 0, f32::NEG_INFINITY)),
         odd(480, 480, bad(1, 0, -0.0)),
         Call::Set(thresholds(0.0, 1.0)),
-        frames(talker, crowd(LOW), 4_800, 8),
+        frames(talker, noise(LOW), 4_800, 8),
         Call::Set(thresholds(-0.0, 0.0)),
         frames(talker, other, 9_600, 6),
         Call::Set(thresholds(f64::NAN, 0.0)),
@@ -197,6 +213,6 @@ pub fn kept() -> Vec<Call> {
             ..fresh
         }),
         Call::Set(fresh),
-        frames(silence, crowd(FULL), 0, 3),
+        frames(silence, noise(FULL), 0, 3),
     ]
 }

@@ -9,7 +9,7 @@ use crate::words::Words;
 use crate::{calls, decision, ducker, lists, numbers, standins};
 
 /// Module and its recorder.
-pub const MODULES: [(&str, fn() -> Vec<u8>); 8] = [
+pub const MODULES: [(&str, fn() -> Vec<u8>); 7] = [
     ("numbers", numbers::record),
     ("filter", filter),
     ("level", level),
@@ -17,7 +17,6 @@ pub const MODULES: [(&str, fn() -> Vec<u8>); 8] = [
     ("decision", decision::record),
     ("ducker", ducker::record),
     ("frames", frames),
-    ("images", images),
 ];
 
 /// Where the repository keeps a module's file.
@@ -122,15 +121,6 @@ fn frames() -> Vec<u8> {
         "frames, made by compare/record frames. Calls with their answers up to the end: 0 fresh, \
          1 frames, 2 an odd frame, 3 settings, 4 reset; compare/src/calls.rs has their words, \
          compare/src/driver.rs the 41 words of an answer.",
-    )
-}
-
-fn images() -> Vec<u8> {
-    let mut words = Words::default();
-    calls::run(&lists::saved(), &mut words);
-    words.file(
-        "images, made by compare/record images. Calls as in frames, and 5, a save: the 1,323 \
-         payload words of document 01.",
     )
 }
 

@@ -3,6 +3,7 @@
 
 use crate::calls::Call;
 use crate::driver::{Answer, Chain, Refusal};
+use crate::image;
 use crate::mixed;
 use crate::random::Random;
 use crate::words::Words;
@@ -32,6 +33,13 @@ impl Replayed {
         self.answer(chain.frame(key, bed), Answer::store);
     }
 
+    /// The letter and a length, which is 32 bits wide.
+    fn image_call(&mut self, letter: u8, length: usize) {
+        let length = u32::try_from(length).expect("a length of 32 bits");
+        self.calls.push(letter);
+        self.calls.extend(length.to_le_bytes());
+    }
+
     /// 0 and what `store` puts, or the refusal's number.
     fn answer<T>(&mut self, got: Result<T, Refusal>, store: impl Fn(&T, &mut Words)) {
         let mut words = Words::default();
@@ -48,10 +56,43 @@ impl Replayed {
 
 const FRAME: usize = 480;
 
+/// What the accepted saves of a list wrote, and what the Rust was at each.
+#[derive(Default)]
+struct Saves {
+    images: Vec<Vec<u8>>,
+    chains: Vec<Chain>,
+}
+
+impl Saves {
+    /// A save; what was saved comes back by a restore.
+    fn save(&mut self, chain: &Chain, length: usize) -> Result<Vec<u8>, Refusal> {
+        let image = chain.save(length)?;
+        let mut read = Chain::default();
+        assert_eq!(read.restore(&image), Ok(()), "a saved image is refused");
+        assert_eq!(read.image(), image, "a saved image comes back as another");
+        self.images.push(image.clone());
+        self.chains.push(chain.clone());
+        Ok(image)
+    }
+
+    /// A restore of what the list saved goes back to what the Rust was then; any other
+    /// image is read.
+    fn restore(&self, chain: &mut Chain, bytes: &[u8]) -> Result<(), Refusal> {
+        if let Some(number) = self.images.iter().position(|image| image == bytes) {
+            *chain = self.chains[number].clone();
+            return Ok(());
+        }
+        chain.restore(bytes)?;
+        assert_eq!(chain.image(), bytes, "an accepted image is another's");
+        Ok(())
+    }
+}
+
 /// A list on one chain: `Fresh` comes first, if at all. Every frame is answered whole.
 pub fn run(calls: &[Call]) -> Replayed {
     let mut out = Replayed::default();
     let mut chain = Chain::default();
+    let mut saves = Saves::default();
     for call in calls {
         match *call {
             Call::Fresh => assert!(out.calls.is_empty(), "replay has one chain"),
@@ -84,7 +125,18 @@ pub fn run(calls: &[Call]) -> Replayed {
                 out.call(b'R', &words);
                 out.answer(chain.reset(strand), |_, _| ());
             }
-            Call::Save => panic!("replay has no saves"),
+            Call::Save(length) => {
+                out.image_call(b'V', length);
+                out.answer(saves.save(&chain, length), |image, to| {
+                    to.put_all(&image::words(image));
+                });
+            }
+            Call::Restore(ref lent) => {
+                let bytes = lent.bytes(&saves.images);
+                out.image_call(b'L', bytes.len());
+                out.calls.extend(&bytes);
+                out.answer(saves.restore(&mut chain, &bytes), |_, _| ());
+            }
         }
     }
     out

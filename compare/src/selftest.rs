@@ -1,10 +1,15 @@
-//! Tests of this comparison: document 01's examples of the stand-ins, and Rust's own
-//! root, narrowing and round against the same worked out by whole numbers.
+//! Tests of this comparison: document 01's examples of the stand-ins, Rust's own root,
+//! narrowing and round against the same worked out by whole numbers, and that a chain
+//! comes back from its image.
 
-use crate::driver::Chain;
+use crate::driver::{Answer, Chain, Refusal};
+use crate::foreign::Foreign;
+use crate::lists::{random_settings, random_signal};
 use crate::numbers;
 use crate::random::Random;
+use crate::signals::Signal;
 use crate::standins;
+use crate::words::Words;
 
 const RANDOM: usize = 1_000_000;
 
@@ -93,6 +98,27 @@ fn examples() -> Vec<(&'static str, bool)> {
             Chain::default().payload().len() == 1_323,
         ),
         (
+            "a fresh payload, place by place",
+            Chain::default().payload() == Foreign::default().payload(),
+        ),
+        (
+            // The last block's words are zero, so its check is 20 rotated 63 times.
+            "the last check of a fresh image is 10",
+            Chain::default().image()[10_744..] == 10u64.to_le_bytes(),
+        ),
+        (
+            "a save into 10,751 bytes",
+            Chain::default().save(10_751) == Err(6),
+        ),
+        (
+            "a restore of 10,753 bytes",
+            Chain::default().restore(&[0; 10_753]) == Err(6),
+        ),
+        (
+            "a restore of zeros",
+            Chain::default().restore(&[0; 10_752]) == Err(7),
+        ),
+        (
             "a 479th sample is missing",
             Chain::default().frame(&[0.0; 479], &[0.0; 480]).err() == Some(1),
         ),
@@ -118,9 +144,62 @@ fn near() -> (u64, u64) {
     (RANDOM as u64 / 5, differ)
 }
 
+/// The words of a frame's answer, or the refusal.
+fn words(answer: Result<Answer, Refusal>) -> Result<Vec<u64>, Refusal> {
+    answer.map(|a| {
+        let mut words = Words::default();
+        a.store(&mut words);
+        words.words
+    })
+}
+
+/// Whether a chain restored from this one's image has the same image, and answers the
+/// next frames as this one does.
+fn comes_back(chain: &mut Chain, key: Signal, bed: Signal, first: u64) -> bool {
+    let mut other = Chain::default();
+    if other.restore(&chain.image()).is_err() || other.image() != chain.image() {
+        return false;
+    }
+    (0..8).all(|i| {
+        let [key, bed] = [key, bed].map(|s| s.samples(first + 480 * i, 480));
+        words(chain.frame(&key, &bed)) == words(other.frame(&key, &bed))
+            && other.image() == chain.image()
+    })
+}
+
+/// Images of 40 chains, five of each between runs of frames, settings and resets.
+fn images() -> (u64, u64) {
+    let random = &mut Random::new(8);
+    let mut differ = 0;
+    for _ in 0..40 {
+        let mut chain = Chain::default();
+        for round in 0..5 {
+            let [key, bed] = [random_signal(random), random_signal(random)];
+            let count = random.below(80);
+            let first = 100_000 * round;
+            for i in 0..count {
+                let [key, bed] = [key, bed].map(|s| s.samples(first + 480 * i, 480));
+                // A refused frame changes nothing.
+                let _ = chain.frame(&key, &bed);
+            }
+            if !comes_back(&mut chain, key, bed, first + 480 * count) {
+                println!("a chain comes back as another from its image");
+                differ += 1;
+            }
+            // Refused settings and resets change nothing.
+            let _ = chain.set(random_settings(random));
+            let _ = chain.reset(random.below(6));
+        }
+    }
+    (200, differ)
+}
+
 /// How many cases were tried, and how many differ.
 pub fn run() -> (u64, u64) {
-    let (mut compared, mut differ) = near();
+    let (near_compared, near_differ) = near();
+    let (images_compared, images_differ) = images();
+    let mut compared = near_compared + images_compared;
+    let mut differ = near_differ + images_differ;
     for (name, holds) in examples() {
         compared += 1;
         if !holds {

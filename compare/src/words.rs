@@ -1,5 +1,7 @@
-//! Lists of 64-bit words, and recorded files: a head of 256 bytes of text, then
-//! little-endian words.
+//! Lists of 64-bit words: written, and read back by document 01's image rules; and
+//! recorded files: a head of 256 bytes of text, then little-endian words.
+
+use std::collections::VecDeque;
 
 pub const HEAD: usize = 256;
 
@@ -69,5 +71,83 @@ impl Words {
         let mut bytes = format!("{text:<255}\n").into_bytes();
         bytes.extend(self.bytes());
         bytes
+    }
+}
+
+/// Words that are read one after the other. None: a word breaks an image rule.
+pub struct Reader<'a> {
+    left: &'a [u64],
+}
+
+impl<'a> Reader<'a> {
+    pub fn new(words: &'a [u64]) -> Self {
+        Self { left: words }
+    }
+
+    pub fn is_empty(&self) -> bool {
+        self.left.is_empty()
+    }
+
+    /// Any word.
+    pub fn word(&mut self) -> Option<u64> {
+        let (first, left) = self.left.split_first()?;
+        self.left = left;
+        Some(*first)
+    }
+
+    /// A whole number of 0 to `most`.
+    pub fn whole(&mut self, most: u64) -> Option<u64> {
+        self.word().filter(|w| *w <= most)
+    }
+
+    /// 0 or 1.
+    pub fn flag(&mut self) -> Option<bool> {
+        Some(self.whole(1)? == 1)
+    }
+
+    pub fn zeros(&mut self, count: usize) -> Option<()> {
+        (0..count).try_for_each(|_| self.whole(0).map(|_| ()))
+    }
+
+    /// An f64 by its bits; it is finite.
+    pub fn f64(&mut self) -> Option<f64> {
+        self.word().map(f64::from_bits).filter(|x| x.is_finite())
+    }
+
+    pub fn numbers<const N: usize>(&mut self) -> Option<[f64; N]> {
+        let mut out = [0.0; N];
+        for x in &mut out {
+            *x = self.f64()?;
+        }
+        Some(out)
+    }
+
+    /// An f32 by its bits in the low half, the high half zero; it is finite.
+    pub fn f32(&mut self) -> Option<f32> {
+        let bits = self.whole(u64::from(u32::MAX))? as u32;
+        Some(f32::from_bits(bits)).filter(|x| x.is_finite())
+    }
+
+    /// A flag and a value; the value behind a 0 flag is zero.
+    pub fn option(&mut self) -> Option<Option<f64>> {
+        if self.flag()? {
+            return self.f64().map(Some);
+        }
+        self.zeros(1)?;
+        Some(None)
+    }
+
+    /// A count of 0 to `places` and that many places: values, then zeros.
+    pub fn list<T>(
+        &mut self,
+        places: usize,
+        value: impl Fn(&mut Self) -> Option<T>,
+    ) -> Option<VecDeque<T>> {
+        let count = self.whole(places as u64)? as usize;
+        let list = (0..count)
+            .map(|_| value(self))
+            .collect::<Option<VecDeque<T>>>()?;
+        self.zeros(places - count)?;
+        Some(list)
     }
 }

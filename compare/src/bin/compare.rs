@@ -8,12 +8,12 @@ use compare::{constants, record, replay, selftest};
 
 const HELP: &str = "\
 compare record MODULE [-o PATH]      writes a module's recorded answers
-compare replay calls [SEED COUNT]    writes a random list of COUNT calls as replay reads it;
-                                     without SEED and COUNT the one that is kept
+compare replay calls [SEED COUNT]    writes a random list of at least COUNT calls as replay reads
+                                     it; without SEED and COUNT the one that is kept
 compare replay answers [SEED COUNT]  writes the Rust's answers to it
 compare audio COUNT                  writes COUNT frames as duckline reads them: speech, noisy speech
 compare constants                    prints the constants' table
-compare selftest                     tests root, narrowing, round and document 01's examples
+compare selftest                     tests root, narrowing, round, images and document 01's examples
 compare paths                        prints each module and where its recorded file lies";
 
 fn put(bytes: &[u8]) -> Result<(), String> {

@@ -8,4 +8,10 @@ impl State {
         to.put_numbers(&self.numbers());
         to.put_zeros(2);
     }
+
+    pub fn load(from: &mut crate::words::Reader) -> Option<Self> {
+        let [z1, z2] = from.numbers()?;
+        from.zeros(2)?;
+        Some(Self { z1, z2 })
+    }
 }

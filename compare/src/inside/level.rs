@@ -14,4 +14,19 @@ impl Level {
         self.frames.iter().for_each(|p| to.put_f64(*p));
         to.put_zeros(SHORT_TERM - self.frames.len());
     }
+
+    pub fn load_filters(&mut self, from: &mut crate::words::Reader) -> Option<()> {
+        for filter in self.filters.iter_mut().flatten() {
+            *filter = State::load(from)?;
+        }
+        Some(())
+    }
+
+    pub fn load_powers(&mut self, from: &mut crate::words::Reader) -> Option<()> {
+        for fast in &mut self.fast {
+            *fast = from.f64()?;
+        }
+        self.frames = from.list(SHORT_TERM, crate::words::Reader::f64)?;
+        Some(())
+    }
 }

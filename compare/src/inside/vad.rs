@@ -56,6 +56,36 @@ impl Inside for FeatureDetector {
     }
 }
 
+impl FeatureDetector {
+    pub fn load_filters(&mut self, from: &mut crate::words::Reader) -> Option<()> {
+        for filter in self.band_state.iter_mut().chain(&mut self.pitch_state) {
+            *filter = State::load(from)?;
+        }
+        Some(())
+    }
+
+    /// An image has at most 240 of the Rust's 300 decimated samples; the older ones
+    /// aren't read. An empty window's minimum is zero there, infinite here.
+    pub fn load_rest(&mut self, from: &mut crate::words::Reader) -> Option<()> {
+        self.decimated = from.list(PITCH_WINDOW, crate::words::Reader::f32)?;
+        self.smoothed_db = from.option()?;
+        self.window_min = from.f64()?;
+        self.window_frames = from.whole(FLOOR_WINDOW as u64 - 1)? as usize;
+        if self.window_frames == 0 {
+            if self.window_min.to_bits() != 0 {
+                return None;
+            }
+            self.window_min = f64::INFINITY;
+        }
+        self.minima = from.list(FLOOR_WINDOWS, crate::words::Reader::f64)?;
+        self.history = from.list(MODULATION_FRAMES, crate::words::Reader::f64)?;
+        Some(())
+    }
+}
+
+/// Frames: the hold of the longest hold_ms, 60,000.
+const HOLD_MOST: u64 = 6_000;
+
 impl Vad {
     /// Frames left in the hold, and the speech power.
     pub fn hold_and_power(&self) -> (u32, Option<f64>) {
@@ -72,5 +102,33 @@ impl Vad {
         to.put_f64(self.state.speech_probability);
         to.put_all(&[self.state.speech_onsets, self.state.speech_offsets, u64::from(self.hold)]);
         to.put_option(self.speech_power);
+    }
+
+    /// The strand of 628 words. What no image holds is as in a fresh strand, but for the
+    /// speech level, which is worked out from the speech power as `Vad::frame` does.
+    pub fn load(from: &mut crate::words::Reader) -> Option<Self> {
+        let mut level = super::level::Level::new(vec![1.0]);
+        let mut detector = FeatureDetector::default();
+        level.load_filters(from)?;
+        detector.load_filters(from)?;
+        level.load_powers(from)?;
+        detector.load_rest(from)?;
+        let mut vad = Self::new(Box::new(detector));
+        vad.level = level;
+        let state = &mut vad.state;
+        state.speech_active = from.flag()?;
+        state.speech_probability = from.f64()?;
+        state.speech_onsets = from.whole(u64::from(u32::MAX))?;
+        state.speech_offsets = from.word()?;
+        let active = u64::from(state.speech_active);
+        if state.speech_onsets.checked_sub(active) != Some(state.speech_offsets) {
+            return None;
+        }
+        vad.hold = from.whole(HOLD_MOST)? as u32;
+        vad.speech_power = from.option()?;
+        vad.state.speech_level_dbfs = vad
+            .speech_power
+            .map(|mean| (db(mean) * 10.0).doc_round() / 10.0);
+        Some(vad)
     }
 }

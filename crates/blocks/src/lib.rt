@@ -162,20 +162,3 @@ pub fn same(a: &[u8], b: &[u8]) -> bool
     }
     true
 }
-
-// Whether two runs of words are the same.
-pub fn same_words(a: &[u64], b: &[u64]) -> bool
-    ensures { λ r. ⌜ r ≡ same (now (a .entry)) (now (b .entry)) ⌝ }
-{
-    if a.len() != b.len() {
-        return false;
-    }
-    let mut k: usize = 0;
-    while k < a.len() {
-        if a[k] != b[k] {
-            return false;
-        }
-        k += 1;
-    }
-    true
-}

@@ -15,6 +15,7 @@ use Rattle.chain.specs.declared.Settings.{Settings}
 use Rattle.chain.specs.declared.Chain.{Chain}
 use Rattle.chain.specs.Settings.{callRanges, outsideSettings}
 use Rattle.chain.specs.Chain.{workOf, finiteIn, fullIn}
+use Rattle.chain.specs.Strands.{Whole}
 use Rattle.chain.specs.Rules.{shortFrame, badSample, frameNumber, settingsNumber}
 
 -- ---- tests
@@ -33,16 +34,13 @@ both true true h = (refl, refl)
 both true false h = absurd (true≢false (sym h))
 both false b h = absurd (true≢false (sym h))
 
-told : (a : Bool) → a ≡ true → T a
+pub told : (a : Bool) → a ≡ true → T a
 told a h = subst T (sym h) tt
 
 -- ---- a frame
 
 pub record Accepted (c : Chain) (key bed : List Float) : Type 0 where
-  pub key-length : length key ≡ frameLength
-  pub bed-length : length bed ≡ frameLength
-  pub key-samples : T (allFinite key)
-  pub bed-samples : T (allFinite bed)
+  pub whole : Whole key bed
   pub key-finite : T (workOf c key bed .key .finite)
   pub bed-finite : T (workOf c key bed .bed .finite)
   pub duck-finite : T (workOf c key bed .duck .finite)
@@ -66,10 +64,12 @@ accepted c key bed z =
     let each = both (w .key .finite) (w .bed .finite) (strands .0) in
     let room = neither (w .key .full) (w .bed .full) (five .0) in
     record {
-      key-length = eqb-true (length key) frameLength (holds (eqb (length key) frameLength) (whole .0));
-      bed-length = eqb-true (length bed) frameLength (holds (eqb (length bed) frameLength) (whole .1));
-      key-samples = told (allFinite key) (holds (allFinite key) (samples .0));
-      bed-samples = told (allFinite bed) (holds (allFinite bed) (samples .1));
+      whole = record {
+        key-length = eqb-true (length key) frameLength (holds (eqb (length key) frameLength) (whole .0));
+        bed-length = eqb-true (length bed) frameLength (holds (eqb (length bed) frameLength) (whole .1));
+        key-samples = told (allFinite key) (holds (allFinite key) (samples .0));
+        bed-samples = told (allFinite bed) (holds (allFinite bed) (samples .1));
+      };
       key-finite = told (w .key .finite) (each .0);
       bed-finite = told (w .bed .finite) (each .1);
       duck-finite = told (w .duck .finite) (strands .1);

@@ -107,8 +107,8 @@ unfolding workOf
 like-next c h (frame key bed) v l z =
     let a = accepted c key bed z in
     record {
-      key = more-heard (c .key) (keyHeard h) key (c .settings .key) (l .key) (a .key-length) (a .key-samples);
-      bed = more-heard (c .bed) (bedHeard h) bed (c .settings .bed) (l .bed) (a .bed-length) (a .bed-samples);
+      key = more-heard (c .key) (keyHeard h) key (c .settings .key) (l .key) (a .whole .key-length) (a .whole .key-samples);
+      bed = more-heard (c .bed) (bedHeard h) bed (c .settings .bed) (l .bed) (a .whole .bed-length) (a .whole .bed-samples);
     }
 like-next c h (settings a) v l z = record { key = l .key; bed = l .bed }
 like-next c h (reset n) v l z = reset-like c h n l
@@ -117,8 +117,8 @@ like-says : (c : Chain) (h : Log Event) (e : Event) → Valid c → Like c h →
 unfolding workOf
 like-says c h (frame key bed) v l z =
     let a = accepted c key bed z in
-    let k = shows (c .key) (keyHeard h) key (c .settings .key) (l .key) (a .key-length) (a .key-samples) in
-    let b = shows (c .bed) (bedHeard h) bed (c .settings .bed) (l .bed) (a .bed-length) (a .bed-samples) in
+    let k = shows (c .key) (keyHeard h) key (c .settings .key) (l .key) (a .whole .key-length) (a .whole .key-samples) in
+    let b = shows (c .bed) (bedHeard h) bed (c .settings .bed) (l .bed) (a .whole .bed-length) (a .whole .bed-samples) in
     λ i. loud (k i) (b i)
 like-says c h (settings a) v l z = refl
 like-says c h (reset n) v l z = refl

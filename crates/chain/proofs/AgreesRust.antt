@@ -116,8 +116,8 @@ module _ (c : Chain) (m : model.RustChain) (v : Valid c) (l : Like c m) (key bed
       ≡ inputsOf (strand.frameOf (c .key) key ks) (strand.frameOf (c .bed) bed bs)
   unfolding inputsOf
   inputs-same =
-      let k : rustPush (m .key) key ks .state ≡ strand.frameOf (c .key) key ks .state = push-state (c .key) (m .key) (l .key) key (a .key-length) ks key-finite in
-      let b : rustPush (m .bed) bed bs .state ≡ strand.frameOf (c .bed) bed bs .state = push-state (c .bed) (m .bed) (l .bed) bed (a .bed-length) bs bed-finite in
+      let k : rustPush (m .key) key ks .state ≡ strand.frameOf (c .key) key ks .state = push-state (c .key) (m .key) (l .key) key (a .whole .key-length) ks key-finite in
+      let b : rustPush (m .bed) bed bs .state ≡ strand.frameOf (c .bed) bed bs .state = push-state (c .bed) (m .bed) (l .bed) bed (a .whole .bed-length) bs bed-finite in
       let rk = reading-same (c .key) (m .key) (l .key) key ks in
       let rb = reading-same (c .bed) (m .bed) (l .bed) bed bs in
       λ i. record {
@@ -153,8 +153,8 @@ module _ (c : Chain) (m : model.RustChain) (v : Valid c) (l : Like c m) (key bed
   frame-like = rw frame-is
       (record {
         settings = refl;
-        key = push-agrees (c .key) (m .key) (l .key) key (a .key-length) ks key-finite;
-        bed = push-agrees (c .bed) (m .bed) (l .bed) bed (a .bed-length) bs bed-finite;
+        key = push-agrees (c .key) (m .key) (l .key) key (a .whole .key-length) ks key-finite;
+        bed = push-agrees (c .bed) (m .bed) (l .bed) bed (a .whole .bed-length) bs bed-finite;
         config = configOf (c .settings .duck);
         ducker = ducked .holds;
       })
@@ -167,8 +167,8 @@ module _ (c : Chain) (m : model.RustChain) (v : Valid c) (l : Like c m) (key bed
   unfolding workOf
   frame-says = rw frame-is
       (λ i. answered (sym (ducked .answers) i)
-      (sym (push-state (c .key) (m .key) (l .key) key (a .key-length) ks key-finite) i)
-      (sym (push-state (c .bed) (m .bed) (l .bed) bed (a .bed-length) bs bed-finite) i))
+      (sym (push-state (c .key) (m .key) (l .key) key (a .whole .key-length) ks key-finite) i)
+      (sym (push-state (c .bed) (m .bed) (l .bed) bed (a .whole .bed-length) bs bed-finite) i))
 
 -- ---- any event
 

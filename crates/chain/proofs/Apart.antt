@@ -1,6 +1,6 @@
 -- A strand's frame is its filters over the samples and what follows them: 480 finite samples are heard as they are.
-use mathlib.Core.Path.{_≡_, refl, sym, _∙_, subst}
-use mathlib.Core.Bool.{Bool, true, false, _&&_, true≢false}
+use mathlib.Core.Path.{_≡_, refl, sym, _∙_}
+use mathlib.Core.Bool.{Bool, true, _&&_}
 use mathlib.Core.List.{List, foldl}
 use lib.Dec.{T, eqb}
 use borrow.Author.Tests.{eqb-true}
@@ -19,7 +19,8 @@ use Rattle.detector.proofs.Finished.{samples-all}
 use Rattle.vad.specs.declared.VadSettings.{VadSettings}
 use Rattle.vad.specs.declared.Strand.{Strand}
 use Rattle.vad.specs.Strand as strand
-use Rattle.chain.specs.Lanes.{Whole, finishedOf, strandOf}
+use Rattle.chain.proofs.Accepted.{both, told}
+use Rattle.chain.specs.Strands.{Whole, finishedOf, strandOf}
 
 module _ (xs : List Float) (n : length xs ≡ frameLength) (ok : T (allFinite xs)) where
   level-apart : (l : Level) → level.finishOf (foldl weighing.stepOf (level.startOf l) (filters.samplesOf xs)) (l .powers) frameLength ≡ level.frameOf l xs
@@ -36,19 +37,14 @@ module _ (xs : List Float) (n : length xs ≡ frameLength) (ok : T (allFinite xs
 
 -- ---- what `frame` has tested
 
-two : (a b : Bool) → a && b ≡ true → (a ≡ true) × (b ≡ true)
-two true true h = (refl, refl)
-two true false h = absurd (true≢false (sym h))
-two false b h = absurd (true≢false (sym h))
-
 pub whole-frame : (key bed : List Float) (p q : Bool) → eqb (length key) frameLength && eqb (length bed) frameLength ≡ true
     → p ≡ allFinite key → q ≡ allFinite bed → p && q ≡ true → Whole key bed
 whole-frame key bed p q l e f h =
-    let n = two (eqb (length key) frameLength) (eqb (length bed) frameLength) l in
-    let s = two p q h in
+    let n = both (eqb (length key) frameLength) (eqb (length bed) frameLength) l in
+    let s = both p q h in
     record {
       key-length = eqb-true (length key) frameLength (n .0);
       bed-length = eqb-true (length bed) frameLength (n .1);
-      key-samples = subst T (sym (sym e ∙ s .0)) tt;
-      bed-samples = subst T (sym (sym f ∙ s .1)) tt;
+      key-samples = told (allFinite key) (sym e ∙ s .0);
+      bed-samples = told (allFinite bed) (sym f ∙ s .1);
     }

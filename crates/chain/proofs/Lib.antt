@@ -1,7 +1,7 @@
-pub mod Apart
 pub mod Zero
 pub mod AllFinite
 pub mod Accepted
+pub mod Apart
 pub mod Valid
 pub mod Laws
 pub mod AgreesRust

@@ -1,6 +1,6 @@
 pub mod Settings
 pub mod Chain
-pub mod Lanes
+pub mod Strands
 pub mod Valid
 pub mod Numbers
 pub mod Rules

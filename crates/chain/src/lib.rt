@@ -3,9 +3,8 @@
 ghost use mathlib.Core.Path.{_≡_};
 ghost use lib.ListN.{length};
 ghost use Rattle.level.specs.Bs1770.{frameLength};
-ghost use Rattle.level.specs.Finite.{allFinite};
 ghost use Rattle.detector.specs.Filters.{outputsOf};
-ghost use Rattle.chain.specs.Lanes.{Whole, weighedOf, bandedOf, finishedOf, strandsOf};
+ghost use Rattle.chain.specs.Strands.{Whole, weighedOf, bandedOf, finishedOf, strandsOf};
 ghost use Rattle.demands.specs.Demands.{EventDemands};
 ghost use Rattle.chain.specs.Rules.{rules, port};
 ghost use Rattle.chain.specs.Rust.{rust};
@@ -308,21 +307,6 @@ impl Settings {
     }
 }
 
-// Whether every sample is finite.
-fn sound(v: &[f32]) -> bool
-    ensures { λ r. ⌜ r ≡ allFinite (now (v .entry)) ⌝ }
-{
-    let mut i = 0;
-    while i < v.len() {
-        if float::finite32(v[i]) {
-            i += 1;
-        } else {
-            return false;
-        }
-    }
-    true
-}
-
 // The level's filters over a frame, both strands in one loop, so that their steps go side by side.
 fn weigh(key: Weighing, bed: Weighing, xs: &[f64; 480], ys: &[f64; 480]) -> Weighed
     requires { ⌜ (length (now xs) ≡ frameLength) × (length (now ys) ≡ frameLength) ⌝ }
@@ -541,7 +525,7 @@ impl Chain {
         ensures { λ r. ⌜ r ≡ frameOf self (now (key .entry)) (now (bed .entry)) ⌝ }
     {
         if (key.len() == FRAME) & (bed.len() == FRAME) {
-            if sound(key) & sound(bed) {
+            if detector::all_finite32(key) & detector::all_finite32(bed) {
                 return self.judged(self.work(key, bed));
             }
             return self.refused(Refusal::BadSample);

@@ -2,12 +2,12 @@
 use mathlib.Core.Path.{_≡_, refl, sym, subst}
 use mathlib.Core.Bool.{Bool, true, false, cond, not, _&&_}
 use Prim.Native.Nat.{ℕ, _*_, _%_, _≤_, _<_}
-use native.Mathlib.Omega.{arith}
+use native.Mathlib.Nat.{le-of-lt}
 use borrow.Author.Tests.{lt-ltb, le-ltb}
 use lib.Dec.{T, ltb}
 use lib.Ieee.{Float, nan, Format, top, ne, ofBits, nanBits}
-use lib.Ieee.Bits.{nanBits-above}
 use lib.Ieee.Compare.{differs-from-itself}
+use Rattle.float.proofs.Patterns.{no-nan-pattern}
 use Rattle.codec.specs.Fields.{infinite, zeroOf, numOf}
 
 -- the three cases of a word
@@ -28,7 +28,7 @@ numOf-wide f w a = rw (le-ltb w (2 * top f) a) (go (ltb (w % top f) (infinite f)
     go false = refl
 
 pub no-nan : (f : Format) (w : ℕ) → w % top f < infinite f → T (not (nanBits f w))
-no-nan f w h = rw (nanBits-above f w, le-ltb (infinite f) (w % top f) (omega arith)) tt
+no-nan f w h = no-nan-pattern f w (le-of-lt h)
 
 -- a value that differs from itself is the NaN
 pub is-nan : (x : Float) → ne x x ≡ true → x ≡ nan

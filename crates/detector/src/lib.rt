@@ -1,7 +1,7 @@
 // The voice detector: turns a frame of 10 ms (480 samples at 48 kHz) into a speech probability and its four features, by the energy of the
 // band 250 Hz to 4 kHz over its noise floor, the modulation of that band, and the voicing of that band below 1 kHz.
 ghost use mathlib.Core.Path.{_≡_};
-ghost use mathlib.Core.Bool.{_&&_, _||_};
+ghost use mathlib.Core.Bool.{_&&_};
 ghost use mathlib.Core.List.{_++_};
 ghost use Prim.Native.Nat.{ℕ, _+_, _-_, _≤_, _<_};
 ghost use lib.ListN.{length, take, drop, getD};
@@ -402,20 +402,6 @@ impl History {
     }
 }
 
-// Whether both are true.
-fn both(a: bool, b: bool) -> bool
-    ensures { λ r. ⌜ r ≡ a && b ⌝ }
-{
-    if a { b } else { false }
-}
-
-// Whether one is true.
-fn either(a: bool, b: bool) -> bool
-    ensures { λ r. ⌜ r ≡ a || b ⌝ }
-{
-    if a { true } else { b }
-}
-
 // The sum, and to it the squares of the values.
 fn energy(from: f64, xs: &[f64]) -> f64
     ensures { λ r. ⌜ r ≡ energyFrom from (now (xs .entry)) ⌝ }
@@ -553,7 +539,7 @@ impl Ends {
         ensures { λ r. ⌜ r ≡ turnOf self sum ⌝ }
     {
         let p = self.head * self.tail;
-        self.finite = both(self.finite, float::finite(p));
+        self.finite = self.finite & float::finite(p);
         let d = root::sqrt(p);
         if d < 1e-12 {
             return self;
@@ -617,7 +603,7 @@ fn uneven(first: f64, second: f64) -> bool
 {
     let low = float::min(first, second);
     let high = float::max(first, second);
-    either(low < 1e-12, low < 0.1 * high)
+    (low < 1e-12) | (low < 0.1 * high)
 }
 
 fn no_window() -> [f64; 240]
@@ -755,7 +741,7 @@ fn decimate(ys: &[f64]) -> [f32; 60]
 }
 
 // Whether every number of v is finite.
-fn all_finite32(v: &[f32]) -> bool
+pub fn all_finite32(v: &[f32]) -> bool
     ensures { λ r. ⌜ r ≡ allFinite (now (v .entry)) ⌝ }
 {
     let mut i = 0;
@@ -879,8 +865,8 @@ fn sound(
         float::max(0.0, powers.band),
         modulated.variance,
     ];
-    let stored = both(filters.all_finite(), level::all_finite(&numbers));
-    both(stored, both(all_finite32(&values), voicing.finite))
+    let stored = filters.all_finite() & level::all_finite(&numbers);
+    stored & (all_finite32(&values) & voicing.finite)
 }
 
 fn no_decimated() -> [f32; 240]

@@ -16,10 +16,6 @@ pub const FRAME: usize = 3840;
 // Bytes of the buffer.
 pub const BUFFER: usize = 61440;
 
-const SIGN: u32 = 2147483648; // 2^31
-
-const INFINITE: u32 = 2139095040; // 255 * 2^23
-
 pub fn buffer() -> [u8; BUFFER]
     ensures { λ r. ⌜ 61440 ≡ length r ⌝ }
 {
@@ -30,19 +26,11 @@ fn wide(b: u8) -> u32 {
     b as u32
 }
 
-// The f32 with these bits. Every NaN pattern stands for one and the same NaN.
-fn value(bits: u32) -> f32 {
-    if INFINITE < bits % SIGN {
-        return 0.0 / 0.0;
-    }
-    f32::from_bits(bits)
-}
-
 // The sample whose first byte is at `at`.
 fn sample(buffer: &[u8; BUFFER], at: usize) -> f32
     requires { ⌜ at + 4 ≤ 61440 ⌝ }
 {
-    value(
+    float::from_bits32(
         wide(buffer[at])
             | wide(buffer[at + 1]) << 8
             | wide(buffer[at + 2]) << 16

@@ -11,11 +11,12 @@ use lib.Dec.{T, ltb, ltb→lt, lit≤, lit<}
 use borrow.Author.Tests.{le-ltb}
 use lib.Pow.{pow-add, pow-pos, pow-mono, pow-lt}
 use lib.Ieee.{Float, nan, inf, fin, Format, binary32, binary64, prec, emax, low, hid, ones, top, up, down, size, odd, units, fits, toBits, ofBits, nanBits}
-use lib.Ieee.Bits.{ofBits-toBits, nanBits-above}
+use lib.Ieee.Bits.{ofBits-toBits}
 use lib.Ieee.Digits.{size-le}
 use lib.Ieee.Exact.{HasValue, units-val}
 use lib.Ieee.Fits.{down-pos, odd-fits, inf-fits}
 use Rattle.float.proofs.Digits.{size-is}
+use Rattle.float.proofs.Patterns.{no-nan-pattern}
 
 -- ---- the digits of q * 2 ^ k
 
@@ -196,10 +197,7 @@ read-coded f s q k h l = ap (ofBits f) (sym (coded f s q k h l)) ∙ ofBits-toBi
 
 -- no such pattern is a NaN's
 pub no-nan-coded : (f : Format) (s : Bool) (n : ℕ) → n ≤ ones f * hid f → T (not (nanBits f (cond s (top f) 0 + n)))
-no-nan-coded f s n h =
-    subst (λ (t : Bool). T (not t))
-    (sym (nanBits-above f (cond s (top f) 0 + n) ∙ le-ltb (ones f * hid f) ((cond s (top f) 0 + n) % top f) (le-trans (le-of-eq (below s)) h)))
-    tt
+no-nan-coded f s n h = no-nan-pattern f (cond s (top f) 0 + n) (le-trans (le-of-eq (below s)) h)
   where
     small : n < top f
     small = lt-of-le-of-lt h (room f)

@@ -8,4 +8,5 @@ pub mod Digits
 pub mod Units
 pub mod Classified
 pub mod Coded
+pub mod Patterns
 pub mod Powers

@@ -1,7 +1,7 @@
 // Floats: what kind of f64 a value is, and the choices, the rounding and the finite tests that all other modules compute with.
 ghost use mathlib.Core.Path.{_≡_};
 ghost use mathlib.Core.Bool.{cond, true};
-ghost use lib.Ieee.{binary64, lt};
+ghost use lib.Ieee.{binary32, binary64, lt, ofBits};
 ghost use lib.Ieee.Scale as scale;
 ghost use Rattle.float.specs.Kind.{kindOf, fieldParts};
 ghost use Rattle.float.specs.Choice.{maxOf, minOf, clampOf};
@@ -32,6 +32,30 @@ const SIGN: u64 = 9223372036854775808; // 2^63
 const INFINITE: u64 = 9218868437227405312; // 2047 * 2^52
 
 const HIDDEN: u64 = 4503599627370496; // 2^52
+
+const SIGN32: u32 = 2147483648; // 2^31
+
+const INFINITE32: u32 = 2139095040; // 255 * 2^23
+
+// The f64 with these bits. Every NaN's pattern stands for one and the same NaN.
+pub fn from_bits(bits: u64) -> f64
+    ensures { λ r. ⌜ r ≡ ofBits binary64 bits ⌝ }
+{
+    if INFINITE < bits % SIGN {
+        return 0.0 / 0.0;
+    }
+    f64::from_bits(bits)
+}
+
+// The f32 with these bits.
+pub fn from_bits32(bits: u32) -> f32
+    ensures { λ r. ⌜ r ≡ ofBits binary32 bits ⌝ }
+{
+    if INFINITE32 < bits % SIGN32 {
+        return 0.0 / 0.0;
+    }
+    f32::from_bits(bits)
+}
 
 // The parts that the bits a below the sign stand for.
 fn fields(negative: bool, a: u64) -> Parts

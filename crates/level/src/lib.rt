@@ -1,7 +1,6 @@
 // A strand's loudness by BS.1770, for each frame of 10 ms: momentary (400 ms), short-term (3 s) and fast (50 ms).
 // Before 400 ms or 3 s of frames the missing ones count as silence.
 ghost use mathlib.Core.Path.{_≡_};
-ghost use mathlib.Core.Bool.{_&&_};
 ghost use lib.ListN.{length};
 ghost use Rattle.level.specs.Finite.{allFinite};
 ghost use Rattle.level.specs.Weighing.{cleanOf, stepOf, runOf};
@@ -91,13 +90,6 @@ pub struct Framed {
     pub level: Level,
     pub reading: Reading,
     pub finite: bool,
-}
-
-// Whether both are true.
-fn both(a: bool, b: bool) -> bool
-    ensures { λ r. ⌜ r ≡ a && b ⌝ }
-{
-    if a { b } else { false }
 }
 
 // Whether every number of v is finite.
@@ -338,6 +330,6 @@ pub fn finish(w: Weighing, powers: Powers, n: usize) -> Framed
             powers: next,
         },
         reading,
-        finite: both(all_finite(&stored), read.finite),
+        finite: all_finite(&stored) & read.finite,
     }
 }

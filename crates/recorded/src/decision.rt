@@ -1,7 +1,6 @@
 // The decision against the recorded answers. A list: threshold, hold_ms, gate_lufs, count of frames; then for each frame 8 inputs
 // (probability, level_dbfs, 4 features, momentary, short_term), the 14 words of the answer, the frames left in the hold, and the speech
 // power as flag and value.
-use super::bits;
 use super::input::BUFFER;
 use super::replay::Replay;
 use detector::FeatureDetector;
@@ -29,9 +28,9 @@ struct Stepped {
 // A strand's settings by their three words.
 pub fn settings(threshold: u64, hold_ms: u64, gate_lufs: u64) -> VadSettings {
     VadSettings {
-        threshold: bits::value(threshold),
-        hold_ms: bits::value(hold_ms),
-        gate_lufs: Lufs(bits::value(gate_lufs)),
+        threshold: float::from_bits(threshold),
+        hold_ms: float::from_bits(hold_ms),
+        gate_lufs: Lufs(float::from_bits(gate_lufs)),
     }
 }
 
@@ -39,13 +38,13 @@ fn heard(w: &[u64; GIVEN]) -> Heard {
     Heard {
         detector: FeatureDetector::new(),
         frame: Frame {
-            probability: bits::value(w[0]),
-            level_dbfs: bits::value(w[1]),
+            probability: float::from_bits(w[0]),
+            level_dbfs: float::from_bits(w[1]),
             features: Features {
-                over_floor_db: bits::value(w[2]),
-                modulation_db: bits::value(w[3]),
-                voicing: bits::value(w[4]),
-                anti: bits::value(w[5]),
+                over_floor_db: float::from_bits(w[2]),
+                modulation_db: float::from_bits(w[3]),
+                voicing: float::from_bits(w[4]),
+                anti: float::from_bits(w[5]),
             },
         },
         finite: true,
@@ -58,8 +57,8 @@ fn loudness(w: &[u64; GIVEN]) -> level::Framed {
         level: Level::new(),
         reading: Reading {
             power: 0.0,
-            momentary: Lufs(bits::value(w[6])),
-            short_term: Lufs(bits::value(w[7])),
+            momentary: Lufs(float::from_bits(w[6])),
+            short_term: Lufs(float::from_bits(w[7])),
             fast: Lufs(0.0),
         },
         finite: true,
@@ -70,14 +69,14 @@ fn loudness(w: &[u64; GIVEN]) -> level::Framed {
 fn level_words(l: SpeechLevel) -> [u64; 2] {
     match l {
         SpeechLevel::Unset => [0, 0],
-        SpeechLevel::Dbfs(x) => [1, bits::of(x)],
+        SpeechLevel::Dbfs(x) => [1, codec::bits64(x)],
     }
 }
 
 fn power_words(p: SpeechPower) -> [u64; 2] {
     match p {
         SpeechPower::Unset => [0, 0],
-        SpeechPower::At(x) => [1, bits::of(x)],
+        SpeechPower::At(x) => [1, codec::bits64(x)],
     }
 }
 
@@ -88,20 +87,20 @@ pub fn answer(s: VadState) -> [u64; 14] {
     let shown = level_words(speech_level);
     let f = s.features;
     [
-        bits::flag(s.speech_active),
-        bits::of(s.speech_probability),
+        codec::flag_bits(s.speech_active),
+        codec::bits64(s.speech_probability),
         shown[0],
         shown[1],
-        bits::of(s.level_dbfs),
-        bits::of(s.momentary_lufs.0),
-        bits::flag(s.gated),
-        bits::of(s.short_term_lufs.0),
+        codec::bits64(s.level_dbfs),
+        codec::bits64(s.momentary_lufs.0),
+        codec::flag_bits(s.gated),
+        codec::bits64(s.short_term_lufs.0),
         s.speech_onsets,
         s.speech_offsets,
-        bits::of(f.over_floor_db),
-        bits::of(f.modulation_db),
-        bits::of(f.voicing),
-        bits::of(f.anti),
+        codec::bits64(f.over_floor_db),
+        codec::bits64(f.modulation_db),
+        codec::bits64(f.voicing),
+        codec::bits64(f.anti),
     ]
 }
 

@@ -1,6 +1,5 @@
 // The voice detector against the recorded frames. A list: signal (3 words), count of frames; then probability, level_dbfs and the four
 // features of the frames that are shown.
-use super::bits;
 use super::input::BUFFER;
 use super::replay::Replay;
 use super::signal;
@@ -11,12 +10,12 @@ use detector::Frame;
 fn words(f: Frame) -> [u64; 6] {
     let features = f.features;
     [
-        bits::of(f.probability),
-        bits::of(f.level_dbfs),
-        bits::of(features.over_floor_db),
-        bits::of(features.modulation_db),
-        bits::of(features.voicing),
-        bits::of(features.anti),
+        codec::bits64(f.probability),
+        codec::bits64(f.level_dbfs),
+        codec::bits64(features.over_floor_db),
+        codec::bits64(features.modulation_db),
+        codec::bits64(features.voicing),
+        codec::bits64(features.anti),
     ]
 }
 

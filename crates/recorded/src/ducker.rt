@@ -1,6 +1,5 @@
 // The ratio duck against the recorded answers. A list: count of frames; then for each frame the duck's 6 settings and 6 inputs, the 13
 // words of the answer and the 4 loops after it.
-use super::bits;
 use super::input::BUFFER;
 use super::replay::Replay;
 use comis::loop_bank::Loops;
@@ -25,10 +24,10 @@ struct Stepped {
 pub fn settings(w: &[u64; SETTINGS]) -> Duck {
     Duck {
         enabled: w[0] == 1,
-        target_lu: bits::value(w[1]),
-        overvoice_lu: bits::value(w[2]),
-        max_reduction_db: bits::value(w[3]),
-        speed: bits::value(w[4]),
+        target_lu: float::from_bits(w[1]),
+        overvoice_lu: float::from_bits(w[2]),
+        max_reduction_db: float::from_bits(w[3]),
+        speed: float::from_bits(w[4]),
         bed_voice: w[5] == 1,
     }
 }
@@ -37,10 +36,10 @@ fn inputs(w: &[u64; INPUTS]) -> Inputs {
     Inputs {
         key_voice: w[0] == 1,
         target_voice: w[1] == 1,
-        dialogue_short_term: Lufs(bits::value(w[2])),
-        bed_short_term: Lufs(bits::value(w[3])),
-        bed_momentary: Lufs(bits::value(w[4])),
-        bed_fast: Lufs(bits::value(w[5])),
+        dialogue_short_term: Lufs(float::from_bits(w[2])),
+        bed_short_term: Lufs(float::from_bits(w[3])),
+        bed_momentary: Lufs(float::from_bits(w[4])),
+        bed_fast: Lufs(float::from_bits(w[5])),
     }
 }
 
@@ -52,27 +51,27 @@ pub fn answer(reduction: Db, s: RatioStatus) -> [u64; 13] {
     let bed_lufs = s.bed_lufs;
     [
         state.number(),
-        bits::of(reduction.0),
-        bits::of(s.reduction_db.0),
-        bits::of(s.slow_db.0),
-        bits::of(s.mid_db.0),
-        bits::of(s.fast_db.0),
-        bits::of(s.target_lu),
+        codec::bits64(reduction.0),
+        codec::bits64(s.reduction_db.0),
+        codec::bits64(s.slow_db.0),
+        codec::bits64(s.mid_db.0),
+        codec::bits64(s.fast_db.0),
+        codec::bits64(s.target_lu),
         ratio_lu.flag(),
-        bits::of(ratio_lu.value()),
+        codec::bits64(ratio_lu.value()),
         dialogue_lufs.flag(),
-        bits::of(dialogue_lufs.value()),
+        codec::bits64(dialogue_lufs.value()),
         bed_lufs.flag(),
-        bits::of(bed_lufs.value()),
+        codec::bits64(bed_lufs.value()),
     ]
 }
 
 fn stored(l: Loops) -> [u64; 4] {
     [
-        bits::of(l.slow),
-        bits::of(l.mid),
-        bits::of(l.fast),
-        bits::of(l.hold_remaining_seconds),
+        codec::bits64(l.slow),
+        codec::bits64(l.mid),
+        codec::bits64(l.fast),
+        codec::bits64(l.hold_remaining_seconds),
     ]
 }
 

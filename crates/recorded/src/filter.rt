@@ -1,6 +1,5 @@
 // The six sections against the recorded outputs. A list: section, signal (3 words), count; then the outputs of the samples 0 to
 // count - 1 and the state after them, z1 and z2.
-use super::bits;
 use super::input::BUFFER;
 use super::replay::Replay;
 use super::signal::Signal;
@@ -32,7 +31,7 @@ fn play(
     let mut i = 0;
     while i < count {
         let t = state.tick(c, std::num::f32_to_f64_with_nan(s.sample(i)));
-        r = r.answer(name, buffer, i, &[bits::of(t.y)]);
+        r = r.answer(name, buffer, i, &[codec::bits64(t.y)]);
         if r.input.ended {
             return r;
         }
@@ -44,7 +43,7 @@ fn play(
         name,
         buffer,
         count,
-        &[bits::of(state.z1), bits::of(state.z2)],
+        &[codec::bits64(state.z1), codec::bits64(state.z2)],
     )
 }
 

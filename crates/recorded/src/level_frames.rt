@@ -1,6 +1,5 @@
 // The level against the recorded readings. A list: signal (3 words), count of frames; then power, momentary, short_term and fast of
 // the frames that are shown.
-use super::bits;
 use super::input::BUFFER;
 use super::replay::Replay;
 use super::signal;
@@ -10,10 +9,10 @@ use level::Reading;
 
 fn words(r: Reading) -> [u64; 4] {
     [
-        bits::of(r.power),
-        bits::of(r.momentary.0),
-        bits::of(r.short_term.0),
-        bits::of(r.fast.0),
+        codec::bits64(r.power),
+        codec::bits64(r.momentary.0),
+        codec::bits64(r.short_term.0),
+        codec::bits64(r.fast.0),
     ]
 }
 

@@ -1,5 +1,4 @@
 // The number functions against recorded cases of three words: the function's number, the argument's bits, the result's bits.
-use super::bits;
 use super::input;
 use super::input::BUFFER;
 use super::input::Input;
@@ -11,17 +10,17 @@ const PLACES: usize = 10;
 
 // The bits of the function's result at the argument with these bits.
 fn result(function: usize, argument: u64) -> u64 {
-    let x = bits::value(argument);
+    let x = float::from_bits(argument);
     match function {
-        1 => bits::of(logarithm::log2(x)),
-        2 => bits::of(logarithm::log10(x)),
-        3 => bits::of(power::exp2(x)),
-        4 => bits::of(power::exp(x)),
-        5 => bits::of(power::exp10(x)),
-        6 => bits::of(power::exp60(x)),
-        7 => bits::of(root::sqrt(x)),
-        8 => bits::of32(narrow::narrow(x)),
-        _ => bits::of(float::round(x)),
+        1 => codec::bits64(logarithm::log2(x)),
+        2 => codec::bits64(logarithm::log10(x)),
+        3 => codec::bits64(power::exp2(x)),
+        4 => codec::bits64(power::exp(x)),
+        5 => codec::bits64(power::exp10(x)),
+        6 => codec::bits64(power::exp60(x)),
+        7 => codec::bits64(root::sqrt(x)),
+        8 => codec::bits32(narrow::narrow(x)),
+        _ => codec::bits64(float::round(x)),
     }
 }
 

@@ -1,6 +1,7 @@
 // Answers on standard output, as words.
 ghost use Prim.Native.Nat.{_+_, _≤_, _<_};
 ghost use lib.ListN.{length};
+use super::input::IMAGE;
 use chain::Answer;
 use chain::Outcome;
 use chain::Verdict;
@@ -139,10 +140,27 @@ pub fn frame(outcome: Outcome) -> bool {
     }
 }
 
-// The same for a settings call or a reset.
+// The same for a settings call, a reset or a restore.
 pub fn verdict(verdict: Verdict) -> bool {
     match verdict {
         Verdict::Passed => code(0),
+        Verdict::Refused(refusal) => code(demands::number(refusal)),
+    }
+}
+
+// The image is the first 10,752 bytes.
+fn image(lent: &[u8; IMAGE]) -> bool {
+    let whole: &[u8] = lent;
+    if code(0) {
+        return io::write_all(STDOUT_FILENO, &whole[..10752]);
+    }
+    false
+}
+
+// The same for a save into lent bytes.
+pub fn saved(verdict: Verdict, lent: &[u8; IMAGE]) -> bool {
+    match verdict {
+        Verdict::Passed => image(lent),
         Verdict::Refused(refusal) => code(demands::number(refusal)),
     }
 }

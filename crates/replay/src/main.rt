@@ -2,20 +2,24 @@
 // little-endian; a word has 64 bits.
 //
 // Calls: F, a frame: two counts of 32 bits, then that many samples, f32, of the key and of the bed. S, settings: 12 words in the image's order,
-// of which words 7 and 12 are flags, 0 or not. R, a reset: one word, the strand.
+// of which words 7 and 12 are flags, 0 or not. R, a reset: one word, the strand. V, a save: a count of 32 bits, the bytes of the lent buffer. L, a
+// restore: a count of 32 bits, then that many bytes.
 //
-// Answers: one word, 0 or the refusal's number. After a frame's 0 come 41 words: state (0 release, 1 duck, 2 interview, 3 overvoice), the
+// Answers: one word, 0 or the refusal's number. After a save's 0 comes the image, 10,752 bytes. After a frame's 0 come 41 words: state (0 release, 1 duck, 2 interview, 3 overvoice), the
 // unrounded reduction, reduction_db, slow_db, mid_db, fast_db, target_lu; ratio_lu, dialogue_lufs and bed_lufs, each as flag and value; then for
 // key and bed active, probability, speech_level as flag and value, level_dbfs, momentary_lufs, gated, short_term_lufs, onsets, offsets,
 // over_floor_db, modulation_db, voicing, anti. A float is its bits, and an absent value 0.
 mod answers;
-mod bits;
 mod input;
 mod settings;
 
 ghost use Prim.Native.Nat.{_≤_};
+ghost use lib.ListN.{length};
 use chain::Chain;
+use chain::Changed;
 use chain::Framed;
+use chain::Verdict;
+use input::IMAGE;
 use input::Letter;
 use input::STRAND;
 use input::Word;
@@ -63,7 +67,7 @@ fn run(
 {
     let k: &[f32] = key;
     let b: &[f32] = bed;
-    chain.frame(&k[..key_count], &b[..bed_count])
+    freightpetal::frame(chain, &k[..key_count], &b[..bed_count])
 }
 
 // The answer to a frame of two strands.
@@ -77,9 +81,9 @@ fn answered(
     let f = run(
         chain,
         key,
-        input::kept(key_count),
+        input::kept(key_count, STRAND),
         bed,
-        input::kept(bed_count),
+        input::kept(bed_count, STRAND),
     );
     let outcome = f.outcome;
     let next = f.chain;
@@ -115,17 +119,21 @@ fn frame(chain: Chain) -> Step {
     short(chain)
 }
 
+// The answer to a settings call, a reset or a restore.
+fn changed(c: Changed) -> Step {
+    let verdict = c.verdict;
+    let next = c.chain;
+    Step {
+        chain: next,
+        ending: ended(answers::verdict(verdict)),
+    }
+}
+
 // S.
 fn set(chain: Chain) -> Step {
     let mut words = [0u64; 12];
     if input::next_words(&mut words) {
-        let c = chain.set(settings::settings(&words));
-        let verdict = c.verdict;
-        let next = c.chain;
-        return Step {
-            chain: next,
-            ending: ended(answers::verdict(verdict)),
-        };
+        return changed(freightpetal::set(chain, settings::settings(&words)));
     }
     short(chain)
 }
@@ -136,13 +144,49 @@ fn reset(chain: Chain) -> Step {
     let Word::Found(strand) = w else {
         return short(chain);
     };
-    let c = chain.reset(strand);
-    let verdict = c.verdict;
-    let next = c.chain;
+    changed(freightpetal::reset(chain, strand))
+}
+
+// The first n bytes are lent for a save.
+fn save_in(chain: Chain, lent: &mut [u8], n: usize) -> Verdict
+    requires { ⌜ n ≤ length (now lent) ⌝ }
+{
+    freightpetal::save(chain, &mut lent[..n])
+}
+
+// V. Of a buffer of more than 10,753 bytes 10,753 are lent, and both are refused alike.
+fn save(chain: Chain) -> Step {
+    let w = input::next_count();
+    let Word::Found(count) = w else {
+        return short(chain);
+    };
+    let mut lent = [0u8; IMAGE];
+    let verdict = save_in(chain, &mut lent, input::kept(count, IMAGE));
     Step {
-        chain: next,
-        ending: ended(answers::verdict(verdict)),
+        chain,
+        ending: ended(answers::saved(verdict, &lent)),
     }
+}
+
+// The first n bytes are restored.
+fn restore_of(chain: Chain, bytes: &[u8; IMAGE], n: usize) -> Changed
+    requires { ⌜ n ≤ 10753 ⌝ }
+{
+    let b: &[u8] = bytes;
+    freightpetal::restore(chain, &b[..n])
+}
+
+// L. Of more than 10,753 bytes 10,753 are kept, and the restore refuses both alike.
+fn restore(chain: Chain) -> Step {
+    let w = input::next_count();
+    let Word::Found(count) = w else {
+        return short(chain);
+    };
+    let mut bytes = [0u8; IMAGE];
+    if input::next_image(count, &mut bytes) {
+        return changed(restore_of(chain, &bytes, input::kept(count, IMAGE)));
+    }
+    short(chain)
 }
 
 // The next call.
@@ -152,6 +196,8 @@ fn call(chain: Chain) -> Step {
         Letter::Frame => frame(chain),
         Letter::Settings => set(chain),
         Letter::Reset => reset(chain),
+        Letter::Save => save(chain),
+        Letter::Restore => restore(chain),
         Letter::Unknown => Step {
             chain,
             ending: Ending::Unknown,
@@ -165,7 +211,7 @@ fn call(chain: Chain) -> Step {
 
 // All calls, up to the one that isn't answered.
 fn calls() -> Stopped {
-    let mut chain = Chain::new();
+    let mut chain = freightpetal::new();
     let mut number: u64 = 1;
     let mut turns = u64::MAX;
     while 0 < turns {
@@ -201,7 +247,7 @@ fn main() {
     match ending {
         Ending::Answered => {}
         Ending::NoCall => {}
-        Ending::Unknown => complain(b"replay: call ", s.call, b" is none of F, S and R\n"),
+        Ending::Unknown => complain(b"replay: call ", s.call, b" is none of F, S, R, V and L\n"),
         Ending::Short => complain(b"replay: the input ends within call ", s.call, b"\n"),
         Ending::Unwritten => complain(
             b"replay: the answer to call ",

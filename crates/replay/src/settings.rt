@@ -1,5 +1,4 @@
 // Settings from their 12 words.
-use super::bits;
 use chain::Settings;
 use float::Lufs;
 use ratio::Duck;
@@ -7,19 +6,19 @@ use vad::VadSettings;
 
 fn strand(threshold: u64, hold_ms: u64, gate_lufs: u64) -> VadSettings {
     VadSettings {
-        threshold: bits::value(threshold),
-        hold_ms: bits::value(hold_ms),
-        gate_lufs: Lufs(bits::value(gate_lufs)),
+        threshold: float::from_bits(threshold),
+        hold_ms: float::from_bits(hold_ms),
+        gate_lufs: Lufs(float::from_bits(gate_lufs)),
     }
 }
 
 fn duck(w: &[u64; 12]) -> Duck {
     Duck {
         enabled: w[6] != 0,
-        target_lu: bits::value(w[7]),
-        overvoice_lu: bits::value(w[8]),
-        max_reduction_db: bits::value(w[9]),
-        speed: bits::value(w[10]),
+        target_lu: float::from_bits(w[7]),
+        overvoice_lu: float::from_bits(w[8]),
+        max_reduction_db: float::from_bits(w[9]),
+        speed: float::from_bits(w[10]),
         bed_voice: w[11] != 0,
     }
 }

@@ -12,15 +12,13 @@ use Rattle.vad.specs.Decision.{heardOf, decideOf, fullOf}
 use Rattle.vad.specs.State.{stateOf, numbersOf}
 use Rattle.vad.specs.Strand.{gatedOf, finishOf}
 
-pub finished : (d : Decision) (l : metered.Framed) (h : Heard) (s : VadSettings) (p : Float) (next : Decision) (shown : VadState) (b m n q : Bool)
+pub finished : (d : Decision) (l : metered.Framed) (h : Heard) (s : VadSettings) (p : Float) (next : Decision) (shown : VadState) (m q : Bool)
     → p ≡ heardOf (gatedOf l s) (h .frame .probability)
     → next ≡ decideOf d p (h .frame .«level_dbfs») s
     → shown ≡ stateOf next (gatedOf l s) (h .frame) (l .reading)
-    → b ≡ l .finite && h .finite
     → m ≡ allFinite (numbersOf next shown)
-    → n ≡ b && m
     → q ≡ fullOf d next
-    → record { strand = record { level = l .level; detector = h .detector; decision = next }; reading = l .reading; state = shown; finite = n; full = q }
+    → record { strand = record { level = l .level; detector = h .detector; decision = next }; reading = l .reading; state = shown; finite = (l .finite && h .finite) && m; full = q }
     ≡ finishOf d l h s
 unfolding finishOf
-finished d l h s p next shown b m n q ep en es eb em ef eq = rw (ef, eq, em, eb, es, en, ep)
+finished d l h s p next shown m q ep en es em eq = rw (eq, em, es, en, ep)

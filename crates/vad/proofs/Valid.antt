@@ -77,7 +77,7 @@ module _ (d : Decision) (v : Even d) (room : d .onsets ≤ 4294967295) where
       go false false true e = v
       go false y false e = v
 
-  -- a frame adds at most one onset, and that where speech goes on
+  -- a frame adds at most one onset, and that where speech turns on
   switch-onsets : (on off : Float) (n : ℕ) → (d .active ≡ false → switchOf d on off n .active ≡ true → d .onsets < 4294967295)
       → switchOf d on off n .onsets ≤ 4294967295
   unfolding switchOf onsetOf offsetOf

@@ -33,7 +33,7 @@ flagOf b = cond b 1 0
 abbrev pub more : ℕ → ℕ
 more n = (n + 1) % 2 ^ 64
 
--- speech goes on, or stays on; n frames of hold
+-- speech turns on, or stays on; n frames of hold
 unfoldable pub onsetOf : Decision → ℕ → Decision
 onsetOf d n = record {
   active = true;

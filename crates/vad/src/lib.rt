@@ -1,7 +1,6 @@
 // The voice activity of one strand: the decision over the detector's probabilities (gate, smoothing, threshold with hysteresis, hold), its
 // counts and speech power, and the strand itself, which is level, detector and decision.
 ghost use mathlib.Core.Path.{_≡_};
-ghost use mathlib.Core.Bool.{_&&_};
 ghost use Prim.Native.Nat.{_<_};
 ghost use Rattle.vad.specs.Hold.{holdFrames};
 ghost use Rattle.vad.specs.Decision.{
@@ -144,7 +143,7 @@ fn mean(old: SpeechPower, power: f64) -> f64
 }
 
 impl Decision {
-    // At or above the threshold: speech goes on, or stays on, and the hold is filled.
+    // At or above the threshold: speech turns on, or stays on, and the hold is filled.
     fn onset(mut self, frames: u32) -> Decision
         ensures { λ r. ⌜ r ≡ onsetOf self frames ⌝ }
     {
@@ -335,13 +334,6 @@ fn sound(d: Decision, s: VadState) -> bool
     level::all_finite(&numbers)
 }
 
-// Whether both are true.
-fn both(a: bool, b: bool) -> bool
-    ensures { λ r. ⌜ r ≡ a && b ⌝ }
-{
-    if a { b } else { false }
-}
-
 // What follows level and detector over a frame: the decision, and what is answered.
 pub fn finish(d: Decision, l: level::Framed, h: Heard, settings: VadSettings) -> Framed
     ensures { λ r. ⌜ r ≡ finishOf d l h settings ⌝ }
@@ -353,7 +345,7 @@ pub fn finish(d: Decision, l: level::Framed, h: Heard, settings: VadSettings) ->
     let gated = momentary.0 < gate.0;
     let decision = d.decide(heard(gated, frame.probability), frame.level_dbfs, settings);
     let shown = state(decision, gated, frame, reading);
-    let finite = both(both(l.finite, h.finite), sound(decision, shown));
+    let finite = l.finite & h.finite & sound(decision, shown);
     let full = d.full(decision);
     let level = l.level;
     let detector = h.detector;

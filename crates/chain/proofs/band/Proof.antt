@@ -12,7 +12,7 @@ use Rattle.sequence.proofs.Fold.{fold-turn, fold-end}
 use Rattle.detector.specs.declared.Bands.{Bands}
 use Rattle.detector.specs.Filters.{stepOf, outputsOf}
 use Rattle.detector.proofs.Outputs.{outputs-turn, outputs-end}
-use Rattle.chain.specs.Lanes.{bandedOf}
+use Rattle.chain.specs.Strands.{bandedOf}
 use Rattle.chain.proofs.band.Statement.{statement}
 use Rattle.chain.proofs.band.Tie as tie
 

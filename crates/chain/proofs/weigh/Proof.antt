@@ -8,7 +8,7 @@ use lib.Ieee.{nan}
 use borrow.Author.Needs.{needs}
 use Rattle.sequence.proofs.Fold.{fold-turn, fold-end}
 use Rattle.level.specs.Weighing.{stepOf}
-use Rattle.chain.specs.Lanes.{weighedOf}
+use Rattle.chain.specs.Strands.{weighedOf}
 use Rattle.chain.proofs.weigh.Statement.{statement}
 use Rattle.chain.proofs.weigh.Tie as tie
 

@@ -26,32 +26,21 @@ slice-aggregate-all-finite c = search needs
 all-finite-requires-2 : tie.Need-all-finite-requires-2
 all-finite-requires-2 c κs = search needs
 
-both-requires : tie.Need-both-requires
-both-requires c κs = search needs
-
 slice-aggregate-all-finite32 : tie.Need-slice-aggregate-all-finite32
 slice-aggregate-all-finite32 c = search needs
 
 all-finite32-requires : tie.Need-all-finite32-requires
 all-finite32-requires c κs = search needs
 
-both-requires-2 : tie.Need-both-requires-2
-both-requires-2 c κs = search needs
-
-both-requires-3 : tie.Need-both-requires-3
-both-requires-3 c κs = search needs
-
 returns : tie.Need-returns
 returns c =
-    let a = c .before .before .before .before .before .before .before .before .before .before .args in
-    c .both3 .ensures
-    ∙ ap₂ _&&_
-    (c .before .before .before .before .both .ensures
-    ∙ ap₂ _&&_ (c .before .before .before .before .before .before .before .all-finite .ensures)
-    (c .before .before .before .before .before .all-finite2 .ensures
+    let a = c .before .before .before .before .before .before .before .before .args in
+    ap₂ _&&_
+    (ap₂ _&&_ (c .before .before .before .before .before .all-finite .ensures)
+    (c .before .before .before .all-finite2 .ensures
     ∙ ap₂ (λ (x y : Float). allFinite (a .floored .smoothed ∷ a .floored .least ∷ a .powers .e ∷ x ∷ y ∷ a .modulated .variance ∷ []))
-    (c .before .before .before .before .before .before .before .before .before .max .ensures) (c .before .before .before .before .before .before .before .before .max2 .ensures)))
-    (c .before .both2 .ensures ∙ ap (λ (x : Bool). x && a .voicing .finite) (c .before .before .all-finite32 .ensures))
+    (c .before .before .before .before .before .before .before .max .ensures) (c .before .before .before .before .before .before .max2 .ensures)))
+    (ap (λ (x : Bool). x && a .voicing .finite) (c .before .all-finite32 .ensures))
 
 pub sound-spec : {M : Type 1} → statement M
-sound-spec = tie.close (tie.spec max-requires max-requires-2 all-finite-requires slice-aggregate-all-finite all-finite-requires-2 both-requires slice-aggregate-all-finite32 all-finite32-requires both-requires-2 both-requires-3 returns)
+sound-spec = tie.close (tie.spec max-requires max-requires-2 all-finite-requires slice-aggregate-all-finite all-finite-requires-2 slice-aggregate-all-finite32 all-finite32-requires returns)

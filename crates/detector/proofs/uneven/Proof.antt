@@ -11,17 +11,13 @@ min-requires c κs = search needs
 max-requires : tie.Need-max-requires
 max-requires c κs = search needs
 
-either-requires : tie.Need-either-requires
-either-requires c κs = search needs
-
 returns : tie.Need-returns
 unfolding unevenOf
 returns c =
     simp (
-      sym (c .before .before .min .ensures),
-      sym (c .before .max .ensures),
-      sym (c .either .ensures),
+      sym (c .before .min .ensures),
+      sym (c .max .ensures),
     )
 
 pub uneven-spec : {M : Type 1} → statement M
-uneven-spec = tie.close (tie.spec min-requires max-requires either-requires returns)
+uneven-spec = tie.close (tie.spec min-requires max-requires returns)

@@ -17,9 +17,6 @@ slice-aggregate-all-finite c = search needs
 all-finite-requires : tie.Need-all-finite-requires
 all-finite-requires c κs = search needs
 
-both-requires : tie.Need-both-requires
-both-requires c κs = search needs
-
 returns : tie.Need-returns
 unfolding finishOf
 returns c =
@@ -27,8 +24,7 @@ returns c =
       sym (c .before .before .before .before .before .before .before .before .join .ensures),
       sym (c .before .before .before .before .before .before .before .read .ensures),
       sym (c .before .all-finite .ensures),
-      sym (c .both .ensures),
     )
 
 pub finish-spec : {M : Type 1} → statement M
-finish-spec = tie.close (tie.spec join-requires read-requires slice-aggregate-all-finite all-finite-requires both-requires returns)
+finish-spec = tie.close (tie.spec join-requires read-requires slice-aggregate-all-finite all-finite-requires returns)

@@ -14,14 +14,8 @@ decide-requires c κs = search needs
 state-requires : tie.Need-state-requires
 state-requires c κs = search needs
 
-both-requires : tie.Need-both-requires
-both-requires c κs = search needs
-
 sound-requires : tie.Need-sound-requires
 sound-requires c κs = search needs
-
-both-requires-2 : tie.Need-both-requires-2
-both-requires-2 c κs = search needs
 
 full-requires : tie.Need-full-requires
 full-requires c κs = search needs
@@ -29,8 +23,8 @@ full-requires c κs = search needs
 returns : tie.Need-returns
 returns c =
     let a = c .before .before .before .before .before .before .before .before .before .before .before .before .before .before .before .args in
-    finished (a .d) (a .l) (a .h) (a .settings) _ _ _ _ _ _ _ (c .before .before .before .before .before .before .before .before .heard .ensures) (c .before .before .before .before .before .before .before .decide .ensures) (c .before .before .before .before .before .before .state .ensures)
-    (c .before .before .before .before .before .both .ensures) (c .before .before .before .before .sound .ensures) (c .before .before .before .both2 .ensures) (c .before .before .full .ensures)
+    finished (a .d) (a .l) (a .h) (a .settings) _ _ _ _ _ (c .before .before .before .before .before .before .before .before .heard .ensures) (c .before .before .before .before .before .before .before .decide .ensures) (c .before .before .before .before .before .before .state .ensures)
+    (c .before .before .before .sound .ensures) (c .before .before .full .ensures)
 
 pub finish-spec : {M : Type 1} → statement M
-finish-spec = tie.close (tie.spec heard-requires decide-requires state-requires both-requires sound-requires both-requires-2 full-requires returns)
+finish-spec = tie.close (tie.spec heard-requires decide-requires state-requires sound-requires full-requires returns)

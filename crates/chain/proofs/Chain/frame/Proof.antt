@@ -6,16 +6,16 @@ use Rattle.chain.proofs.Apart.{whole-frame}
 use Rattle.chain.proofs.Chain.frame.Statement.{statement}
 use Rattle.chain.proofs.Chain.frame.Tie as tie
 
-sound-requires : tie.Need-sound-requires
-sound-requires c κs = search needs
+all-finite32-requires : tie.Need-all-finite32-requires
+all-finite32-requires c κs = search needs
 
-sound-requires-2 : tie.Need-sound-requires-2
-sound-requires-2 c κs = search needs
+all-finite32-requires-2 : tie.Need-all-finite32-requires-2
+all-finite32-requires-2 c κs = search needs
 
 work-requires : tie.Need-work-requires
 work-requires c κs =
     let a = c .before .before .before .before .before .before .args in
-    whole-frame (a .key .now) (a .bed .now) (c .before .before .sound .result) (c .before .sound2 .result) (c .before .before .before .if1 .taken) (c .before .before .sound .ensures) (c .before .sound2 .ensures) (c .if2 .taken)
+    whole-frame (a .key .now) (a .bed .now) (c .before .before .all-finite32 .result) (c .before .all-finite322 .result) (c .before .before .before .if1 .taken) (c .before .before .all-finite32 .ensures) (c .before .all-finite322 .ensures) (c .if2 .taken)
 
 judged-requires : tie.Need-judged-requires
 judged-requires c κs = search needs
@@ -23,7 +23,7 @@ judged-requires c κs = search needs
 returns : tie.Need-returns
 unfolding frameOf
 returns c =
-    simp (sym (c .before .before .before .before .sound .ensures), sym (c .before .before .before .sound2 .ensures), sym (c .before .work .ensures), sym (c .judged .ensures), c .before .before .before .before .before .if1 .taken, c .before .before .if2 .taken)
+    simp (sym (c .before .before .before .before .all-finite32 .ensures), sym (c .before .before .before .all-finite322 .ensures), sym (c .before .work .ensures), sym (c .judged .ensures), c .before .before .before .before .before .if1 .taken, c .before .before .if2 .taken)
 
 refused-requires : tie.Need-refused-requires
 refused-requires c κs = search needs
@@ -31,7 +31,7 @@ refused-requires c κs = search needs
 returns-2 : tie.Need-returns-2
 unfolding frameOf
 returns-2 c =
-    simp (sym (c .before .before .before .sound .ensures), sym (c .before .before .sound2 .ensures), sym (c .refused .ensures), c .before .before .before .before .if1 .taken, c .before .if2 .left)
+    simp (sym (c .before .before .before .all-finite32 .ensures), sym (c .before .before .all-finite322 .ensures), sym (c .refused .ensures), c .before .before .before .before .if1 .taken, c .before .if2 .left)
 
 refused-requires-2 : tie.Need-refused-requires-2
 refused-requires-2 c κs = search needs
@@ -42,4 +42,4 @@ returns-3 c =
     simp (sym (c .refused2 .ensures), c .before .if1 .left)
 
 pub frame-spec : {M : Type 1} → statement M
-frame-spec = tie.close (tie.spec sound-requires sound-requires-2 work-requires judged-requires returns refused-requires returns-2 refused-requires-2 returns-3)
+frame-spec = tie.close (tie.spec all-finite32-requires all-finite32-requires-2 work-requires judged-requires returns refused-requires returns-2 refused-requires-2 returns-3)

@@ -1,7 +1,7 @@
 -- `Chain::work` meets its contract: the strands, then the ducker.
 use borrow.Author.Needs.{needs}
 use Rattle.chain.specs.Chain.{workOf}
-use Rattle.chain.specs.Lanes.{strandsOf}
+use Rattle.chain.specs.Strands.{strandsOf}
 use Rattle.chain.proofs.Apart.{strand-apart}
 use Rattle.chain.proofs.Chain.work.Statement.{statement}
 use Rattle.chain.proofs.Chain.work.Tie as tie

@@ -8,9 +8,6 @@ use Rattle.detector.proofs.Ends.turn.Tie as tie
 finite-requires : tie.Need-finite-requires
 finite-requires c κs = search needs
 
-both-requires : tie.Need-both-requires
-both-requires c κs = search needs
-
 sqrt-requires : tie.Need-sqrt-requires
 sqrt-requires c κs = search needs
 
@@ -19,7 +16,6 @@ unfolding turnOf
 returns c =
     simp (
       sym (c .before .before .before .finite .ensures),
-      sym (c .before .before .both .ensures),
       sym (c .before .sqrt .ensures),
       c .if1 .taken,
     )
@@ -35,7 +31,6 @@ unfolding turnOf
 returns-2 c =
     simp (
       sym (c .before .before .before .before .before .finite .ensures),
-      sym (c .before .before .before .before .both .ensures),
       sym (c .before .before .before .sqrt .ensures),
       sym (c .before .max .ensures),
       sym (c .min .ensures),
@@ -43,4 +38,4 @@ returns-2 c =
     )
 
 pub turn-spec : {M : Type 1} → statement M
-turn-spec = tie.close (tie.spec finite-requires both-requires sqrt-requires returns max-requires min-requires returns-2)
+turn-spec = tie.close (tie.spec finite-requires sqrt-requires returns max-requires min-requires returns-2)

@@ -1,4 +1,4 @@
--- `input::skip` is safe and ends: each turn reads past at least one sample.
+-- `input::skip` is safe and ends: each turn reads past at least one byte.
 use Prim.Native.Nat.{_<_, _^_}
 use borrow.Author.Needs.{needs}
 use Rattle.replay.proofs.input.skip.Statement.{statement}
@@ -15,9 +15,6 @@ loop-holds c = search needs
 
 kept-requires : tie.Need-kept-requires Inv-loop μ-loop
 kept-requires c κs = search needs
-
-mul-part : tie.Need-mul-part Inv-loop μ-loop
-mul-part c = search needs
 
 part-requires : tie.Need-part-requires Inv-loop μ-loop
 part-requires c κs = search needs
@@ -45,7 +42,6 @@ skip-spec =
     μ-loop
     loop-holds
     kept-requires
-    mul-part
     part-requires
     sub-left
     loop-less
