@@ -17,7 +17,7 @@ use Rattle.chain.specs.Chain.{freshOf, workOf, keptOf, withSettings, fin
 use Rattle.chain.specs.Valid.{Valid}
 use Rattle.chain.specs.Rules.{HeldStrand, HeldDuck, Asked, Event, frame, settings, frameNumber, settingsNumber, rules}
 use Rattle.chain.specs.Rust as model
-use Rattle.chain.specs.Dead.{reductionOf, IsFrame, NoDeadUnits}
+use Rattle.chain.specs.Dead.{reductionOf, keyOnsets, bedOnsets, IsFrame, NoDeadUnits}
 use Rattle.chain.proofs.Witness.{silence, click, lateWork, work-late, fresh-rests, keySpeaks, clickChain, computed}
 use Rattle.chain.proofs.Valid.{fresh-valid, next-valid}
 use Rattle.chain.proofs.AgreesRust.{Like, like-new, like-next, like-says}
@@ -143,5 +143,7 @@ pub no-dead-units : NoDeadUnits
 no-dead-units unit = record {
   not-fixed = λ d. dead.not-fixed rules unit model.rust d reductionOf two-answers;
   not-repeats = λ d. dead.not-repeats rules unit model.rust d reductionOf moves;
+  not-inventing = λ d. dead.not-inventing rules unit model.rust d keyOnsets;
+  not-inventing-bed = λ d. dead.not-inventing rules unit model.rust d bedOnsets;
   not-refusing = λ d. dead.not-refuses-all rules unit IsFrame d passing;
 }

@@ -602,7 +602,7 @@ pub fn demands()
     ensures { λ _. ⌜ EventDemands rules port rust loudness ⌝ }
 {}
 
-// No unit that meets the demands answers a fixed reduction, repeats its first answer, or refuses every frame.
+// No unit that meets the demands answers a fixed reduction, repeats its first answer, invents onsets, or refuses every frame.
 pub fn dead_units()
     ensures { λ _. ⌜ NoDeadUnits ⌝ }
 {}

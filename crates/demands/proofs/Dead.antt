@@ -8,7 +8,7 @@ use lib.ListN.{length, replicate, length-replicate}
 use Rattle.demands.specs.Calls.{Log, empty, _▹_, here, Bytes, Call, event, save, restore, answer, done, Reply, refusal, passed, Seen, Rules, Images, Calls, eventCalls, allCalls, Port, Reference}
 use Rattle.demands.specs.Demands.{History, stateOf, modelOf, Passes, Story, begins, adds, keeps, said, from, seenFrom, after, sees, ported, Told, Demand1, hear, heard, Demand2, Demand3b, Demand3c}
 use Rattle.demands.proofs.Events.{onEvents, calls, story-calls}
-use Rattle.demands.specs.Dead.{Lived, firstOf, Passing, TwoStates, TwoAnswers, Moves, Fixed, Repeats, RefusesAll, OneImage, RestoresNothing}
+use Rattle.demands.specs.Dead.{Lived, firstOf, Passing, TwoStates, TwoAnswers, Moves, Fixed, Repeats, Invents, RefusesAll, OneImage, RestoresNothing}
 
 -- ---- lists
 
@@ -76,6 +76,15 @@ module _ (R : Rules) (port : Port R (eventCalls R)) where
           let a = right (w .h) (w .e) (w .lived) in
           let a₁ = right empty (firstOf R (w .h) (w .e)) (tt, first-passes (w .h) (w .e) (w .lived)) in
           w .apart (sym (ap look (a .2)) ∙ f .repeats (w .h) (w .e) (a .0) (a₁ .0) (a₁ .1) (a .1) ∙ ap look (a₁ .2))
+
+    -- one that counts more than the reference, wherever it is
+    pub not-inventing : (count : M .Said → ℕ) → Invents R M count port → ⊥
+    not-inventing count w =
+        let b = right (w .h) (w .e) (w .lived) in
+        let p : _≡_ {A = Reply (R .Answer)} (passed (answer (w .a))) (passed (answer (b .0))) = sym (w .answers) ∙ b .1 in
+        let q : w .a ≡ b .0 = cc in
+        let z : count (M .part (w .a)) ≡ count (M .says (modelOf R M (w .h)) (w .e)) = ap (λ x. count (M .part x)) q ∙ ap count (b .2) in
+        omega (arith, z, w .more)
 
   -- one that refuses every event of some sort fails demand 1 where one of them passes
   pub not-refuses-all : (Sort : R .Event → Type 0) → Demand1 R E port → Passing R Sort → RefusesAll R Sort port → ⊥

@@ -1,6 +1,6 @@
 -- Dead units that document 01 wants shut out, and the witnesses that a product gives against them.
 use mathlib.Core.Path.{_≡_}
-use Prim.Native.Nat.{ℕ}
+use Prim.Native.Nat.{ℕ, _<_}
 use Rattle.demands.specs.Calls.{Log, empty, _▹_, Bytes, Call, save, restore, answer, refusal, passed, Rules, Images, eventCalls, allCalls, Port, Reference}
 use Rattle.demands.specs.Demands.{History, stateOf, modelOf, Passes, after, sees}
 
@@ -50,7 +50,7 @@ module _ (R : Rules) where
       pub lived : Lived (h ▹ e)
       pub apart : look (M .says (modelOf R M h) e) ≡ look (M .says (M .new) (firstOf h e)) → ⊥
 
-    -- ---- DEAD UNITS: first two that answer, by what is looked at; one that refuses; two with images
+    -- ---- DEAD UNITS: first two that answer, by what is looked at; one that counts; one that refuses; two with images
 
     module _ (port : Port R (eventCalls R)) where
       -- whatever it answers looks like v (always 0 dB)
@@ -64,6 +64,15 @@ module _ (R : Rules) where
         pub repeats : (es : Log (R .Event)) (e : R .Event) (a a₁ : R .Answer)
             → sees R (eventCalls R) port empty (firstOf es e) .reply ≡ passed (answer a₁)
             → sees R (eventCalls R) port es e .reply ≡ passed (answer a) → look (M .part a) ≡ look (M .part a₁)
+
+  -- somewhere it counts more than the reference (onsets invented)
+  pub record Invents (M : Reference R) (count : M .Said → ℕ) (port : Port R (eventCalls R)) : Type 0 where
+    pub h : History R
+    pub e : R .Event
+    pub lived : Lived (h ▹ e)
+    pub a : R .Answer
+    pub answers : sees R (eventCalls R) port h e .reply ≡ passed (answer a)
+    pub more : count (M .says (modelOf R M h) e) < count (M .part a)
 
   -- it refuses every event of some sort (runaway for every frame)
   pub record RefusesAll (Sort : R .Event → Type 0) (port : Port R (eventCalls R)) : Type 0 where

@@ -11,10 +11,8 @@ use float::Lufs;
 use level::Level;
 use level::Reading;
 use vad::Decision;
-use vad::SpeechLevel;
 use vad::SpeechPower;
 use vad::VadSettings;
-use vad::VadState;
 
 // The inputs of a frame.
 const GIVEN: usize = 8;
@@ -23,15 +21,6 @@ const GIVEN: usize = 8;
 struct Stepped {
     r: Replay,
     decision: Decision,
-}
-
-// A strand's settings by their three words.
-pub fn settings(threshold: u64, hold_ms: u64, gate_lufs: u64) -> VadSettings {
-    VadSettings {
-        threshold: float::from_bits(threshold),
-        hold_ms: float::from_bits(hold_ms),
-        gate_lufs: Lufs(float::from_bits(gate_lufs)),
-    }
 }
 
 fn heard(w: &[u64; GIVEN]) -> Heard {
@@ -66,42 +55,11 @@ fn loudness(w: &[u64; GIVEN]) -> level::Framed {
 }
 
 // Flag and value.
-fn level_words(l: SpeechLevel) -> [u64; 2] {
-    match l {
-        SpeechLevel::Unset => [0, 0],
-        SpeechLevel::Dbfs(x) => [1, codec::bits64(x)],
-    }
-}
-
 fn power_words(p: SpeechPower) -> [u64; 2] {
     match p {
         SpeechPower::Unset => [0, 0],
         SpeechPower::At(x) => [1, codec::bits64(x)],
     }
-}
-
-// Active, probability, speech level as flag and value, level, momentary, gated, short-term, onsets, offsets, over floor, modulation,
-// voicing, anti.
-pub fn answer(s: VadState) -> [u64; 14] {
-    let speech_level = s.speech_level;
-    let shown = level_words(speech_level);
-    let f = s.features;
-    [
-        codec::flag_bits(s.speech_active),
-        codec::bits64(s.speech_probability),
-        shown[0],
-        shown[1],
-        codec::bits64(s.level_dbfs),
-        codec::bits64(s.momentary_lufs.0),
-        codec::flag_bits(s.gated),
-        codec::bits64(s.short_term_lufs.0),
-        s.speech_onsets,
-        s.speech_offsets,
-        codec::bits64(f.over_floor_db),
-        codec::bits64(f.modulation_db),
-        codec::bits64(f.voicing),
-        codec::bits64(f.anti),
-    ]
 }
 
 fn stored(d: Decision) -> [u64; 3] {
@@ -124,7 +82,7 @@ fn step(
     let f = vad::finish(decision, loudness(&w), heard(&w), settings);
     let state = f.state;
     let next = f.strand.decision;
-    let answered = given.compare(name, buffer, i, &answer(state));
+    let answered = given.compare(name, buffer, i, &words::strand(state));
     let r = answered.compare(name, buffer, i, &stored(next));
     Stepped {
         r: r.accept(name, i, f.finite).count(),
@@ -166,7 +124,7 @@ pub fn list(before: Replay, name: &[u8], buffer: &mut [u8; BUFFER]) -> Replay {
         r,
         name,
         buffer,
-        settings(head[0], head[1], head[2]),
+        words::strand_settings(head[0], head[1], head[2]),
         head[3],
     )
 }

@@ -3,14 +3,12 @@
 use super::input::BUFFER;
 use super::replay::Replay;
 use comis::loop_bank::Loops;
-use float::Db;
 use float::Lufs;
 use ratio::Duck;
 use ratio::Inputs;
-use ratio::RatioStatus;
 
 // The duck's settings.
-pub const SETTINGS: usize = 6;
+const SETTINGS: usize = 6;
 
 // The inputs of a frame.
 const INPUTS: usize = 6;
@@ -21,7 +19,7 @@ struct Stepped {
     loops: Loops,
 }
 
-pub fn settings(w: &[u64; SETTINGS]) -> Duck {
+fn settings(w: &[u64; SETTINGS]) -> Duck {
     Duck {
         enabled: w[0] == 1,
         target_lu: float::from_bits(w[1]),
@@ -43,29 +41,6 @@ fn inputs(w: &[u64; INPUTS]) -> Inputs {
     }
 }
 
-// State, unrounded reduction, reduction, slow, mid, fast, target; ratio, dialogue and bed each as flag and value.
-pub fn answer(reduction: Db, s: RatioStatus) -> [u64; 13] {
-    let state = s.state;
-    let ratio_lu = s.ratio_lu;
-    let dialogue_lufs = s.dialogue_lufs;
-    let bed_lufs = s.bed_lufs;
-    [
-        state.number(),
-        codec::bits64(reduction.0),
-        codec::bits64(s.reduction_db.0),
-        codec::bits64(s.slow_db.0),
-        codec::bits64(s.mid_db.0),
-        codec::bits64(s.fast_db.0),
-        codec::bits64(s.target_lu),
-        ratio_lu.flag(),
-        codec::bits64(ratio_lu.value()),
-        dialogue_lufs.flag(),
-        codec::bits64(dialogue_lufs.value()),
-        bed_lufs.flag(),
-        codec::bits64(bed_lufs.value()),
-    ]
-}
-
 fn stored(l: Loops) -> [u64; 4] {
     [
         codec::bits64(l.slow),
@@ -85,7 +60,7 @@ fn step(before: Replay, name: &[u8], buffer: &mut [u8; BUFFER], i: u64, loops: L
     let reduction = f.reduction;
     let status = f.status;
     let next = f.loops;
-    let answered = given.compare(name, buffer, i, &answer(reduction, status));
+    let answered = given.compare(name, buffer, i, &words::status(reduction, status));
     let r = answered.compare(name, buffer, i, &stored(next));
     Stepped {
         r: r.accept(name, i, f.finite).count(),

@@ -2,8 +2,6 @@
 // number, its arguments, then what it answers: a code (0 passed, else the refusal), and 41 words after a frame's code 0 where they are
 // recorded. compare/src/calls.rs has the arguments.
 use super::bits;
-use super::decision;
-use super::ducker;
 use super::input::BUFFER;
 use super::replay;
 use super::replay::Replay;
@@ -12,7 +10,6 @@ use super::signal::Signal;
 use chain::Chain;
 use chain::Changed;
 use chain::Outcome;
-use chain::Settings;
 use chain::Verdict;
 
 // Words of an answer.
@@ -49,7 +46,7 @@ fn call_code(v: Verdict) -> u64 {
     }
 }
 
-// The ducker's words, the key's, the bed's. Zeros stand for those of a frame that the port refuses.
+// The 41 words of an answer. Zeros stand for those of a frame that the port refuses.
 fn compare_answer(
     r: Replay,
     name: &[u8],
@@ -58,15 +55,7 @@ fn compare_answer(
     o: Outcome,
 ) -> Replay {
     match o {
-        Outcome::Passed(a) => {
-            let reduction = a.reduction;
-            let status = a.status;
-            let key = a.key;
-            let bed = a.bed;
-            let ducked = r.compare(name, buffer, place, &ducker::answer(reduction, status));
-            let keyed = ducked.compare(name, buffer, place, &decision::answer(key));
-            keyed.compare(name, buffer, place, &decision::answer(bed))
-        }
+        Outcome::Passed(a) => r.compare(name, buffer, place, &words::answer(a)),
         Outcome::Refused(_) => r.compare(name, buffer, place, &[0u64; ANSWER]),
     }
 }
@@ -217,18 +206,11 @@ fn changed(before: Run, name: &[u8], buffer: &mut [u8; BUFFER], c: Changed) -> R
 }
 
 fn set(mut run: Run, name: &[u8], buffer: &mut [u8; BUFFER]) -> Run {
-    let mut strands = [0u64; 6];
-    let mut duck = [0u64; ducker::SETTINGS];
+    let mut w = [0u64; 12];
     let before = run.r;
-    let half = before.words(buffer, &mut strands);
-    run.r = half.words(buffer, &mut duck);
-    let settings = Settings {
-        key: decision::settings(strands[0], strands[1], strands[2]),
-        bed: decision::settings(strands[3], strands[4], strands[5]),
-        duck: ducker::settings(&duck),
-    };
+    run.r = before.words(buffer, &mut w);
     let chain = run.chain;
-    changed(run, name, buffer, chain.set(settings))
+    changed(run, name, buffer, chain.set(words::settings(&w)))
 }
 
 fn reset(mut run: Run, name: &[u8], buffer: &mut [u8; BUFFER]) -> Run {

@@ -5,13 +5,7 @@ use super::input::IMAGE;
 use chain::Answer;
 use chain::Outcome;
 use chain::Verdict;
-use codec::bits64;
-use codec::flag_bits;
-use float::Db;
 use libc::STDOUT_FILENO;
-use ratio::RatioStatus;
-use vad::SpeechLevel;
-use vad::VadState;
 
 // Words of the answer to a frame that passes.
 const WORDS: usize = 42;
@@ -49,63 +43,6 @@ fn put_all(out: &mut [u8; BYTES], first: usize, words: &[u64])
     }
 }
 
-fn status(reduction: Db, s: RatioStatus) -> [u64; 13] {
-    let state = s.state;
-    let ratio_lu = s.ratio_lu;
-    let dialogue_lufs = s.dialogue_lufs;
-    let bed_lufs = s.bed_lufs;
-    [
-        state.number(),
-        bits64(reduction.0),
-        bits64(s.reduction_db.0),
-        bits64(s.slow_db.0),
-        bits64(s.mid_db.0),
-        bits64(s.fast_db.0),
-        bits64(s.target_lu),
-        ratio_lu.flag(),
-        bits64(ratio_lu.value()),
-        dialogue_lufs.flag(),
-        bits64(dialogue_lufs.value()),
-        bed_lufs.flag(),
-        bits64(bed_lufs.value()),
-    ]
-}
-
-fn level_flag(l: SpeechLevel) -> u64 {
-    match l {
-        SpeechLevel::Unset => 0,
-        SpeechLevel::Dbfs(_) => 1,
-    }
-}
-
-fn level_value(l: SpeechLevel) -> f64 {
-    match l {
-        SpeechLevel::Unset => 0.0,
-        SpeechLevel::Dbfs(x) => x,
-    }
-}
-
-fn strand(s: VadState) -> [u64; 14] {
-    let level = s.speech_level;
-    let f = s.features;
-    [
-        flag_bits(s.speech_active),
-        bits64(s.speech_probability),
-        level_flag(level),
-        bits64(level_value(level)),
-        bits64(s.level_dbfs),
-        bits64(s.momentary_lufs.0),
-        flag_bits(s.gated),
-        bits64(s.short_term_lufs.0),
-        s.speech_onsets,
-        s.speech_offsets,
-        bits64(f.over_floor_db),
-        bits64(f.modulation_db),
-        bits64(f.voicing),
-        bits64(f.anti),
-    ]
-}
-
 // Writes the first n words, and answers whether that could be done.
 fn write(out: &[u8; BYTES], n: usize) -> bool
     requires { ⌜ n ≤ 42 ⌝ }
@@ -115,14 +52,8 @@ fn write(out: &[u8; BYTES], n: usize) -> bool
 }
 
 fn passed(a: Answer) -> bool {
-    let reduction = a.reduction;
-    let duck = a.status;
-    let key = a.key;
-    let bed = a.bed;
     let mut out = [0u8; BYTES];
-    put_all(&mut out, 1, &status(reduction, duck));
-    put_all(&mut out, 14, &strand(key));
-    put_all(&mut out, 28, &strand(bed));
+    put_all(&mut out, 1, &words::answer(a));
     write(&out, WORDS)
 }
 

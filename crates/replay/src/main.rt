@@ -11,7 +11,6 @@
 // over_floor_db, modulation_db, voicing, anti. A float is its bits, and an absent value 0.
 mod answers;
 mod input;
-mod settings;
 
 ghost use Prim.Native.Nat.{_≤_};
 ghost use lib.ListN.{length};
@@ -133,7 +132,7 @@ fn changed(c: Changed) -> Step {
 fn set(chain: Chain) -> Step {
     let mut words = [0u64; 12];
     if input::next_words(&mut words) {
-        return changed(freightpetal::set(chain, settings::settings(&words)));
+        return changed(freightpetal::set(chain, words::settings(&words)));
     }
     short(chain)
 }

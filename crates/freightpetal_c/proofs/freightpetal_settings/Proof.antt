@@ -1,0 +1,58 @@
+-- `freightpetal_settings` meets its contract: restored, then by the verdict.
+use Rattle.freightpetal_c.proofs.Lent.{set-opened, set-closed}
+use borrow.Author.Needs.{needs}
+use Rattle.freightpetal_c.proofs.freightpetal_settings.Statement.{statement}
+use Rattle.freightpetal_c.proofs.freightpetal_settings.Tie as tie
+
+new-requires : tie.Need-new-requires
+new-requires c κs = search needs
+
+restore-requires : tie.Need-restore-requires
+restore-requires c κs = search needs
+
+enum-told : tie.Need-enum-told
+enum-told c = search needs
+
+settings-requires : tie.Need-settings-requires
+settings-requires c κs = search needs
+
+set-requires : tie.Need-set-requires
+set-requires c κs = search needs
+
+changed-requires : tie.Need-changed-requires
+changed-requires c κs = search needs
+
+enum-known-verdict : tie.Need-enum-known-verdict
+enum-known-verdict c = search needs
+
+number-requires : tie.Need-number-requires
+number-requires c κs = search needs
+
+same-length : tie.Need-same-length
+same-length c = search needs
+
+returns : tie.Need-returns
+returns c = set-opened _ _ (c .before .before .before .before .before .before .before .before .before .restore .ensures .0) (c .before .before .before .before .before .before .before .before .before .before .before .new .ensures) _ (c .before .before .before .before .before .before .enum-told .given .1) (c .before .before .before .before .settings .ensures) (c .before .before .before .set .ensures .0) (c .before .before .changed .ensures)
+
+same-length-2 : tie.Need-same-length-2
+same-length-2 c = search needs
+
+returns-2 : tie.Need-returns-2
+returns-2 c = set-closed _ _ (c .before .before .before .before .before .restore .ensures .0) (c .before .before .before .before .before .before .before .new .ensures) _ (c .before .before .verdict .given .1) (c .number .ensures)
+
+pub freightpetal-settings-spec : {M : Type 1} → statement M
+freightpetal-settings-spec =
+    tie.close
+    (tie.spec
+    new-requires
+    restore-requires
+    enum-told
+    settings-requires
+    set-requires
+    changed-requires
+    enum-known-verdict
+    number-requires
+    same-length
+    returns
+    same-length-2
+    returns-2)

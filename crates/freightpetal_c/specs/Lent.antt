@@ -1,0 +1,81 @@
+-- Calls on a lent image: the chain is restored from it, the call runs, and the chain is saved back. Definitions only.
+use mathlib.Core.Path.{_≡_}
+use mathlib.Core.List.{List}
+use Prim.Native.Nat.{ℕ}
+use lib.Ieee.{Float}
+use Rattle.demands.specs.Table.{numberOf}
+use Rattle.chain.specs.declared.Chain.{Chain}
+use Rattle.chain.specs.declared.Changed.{Changed}
+use Rattle.chain.specs.declared.Framed.{Framed}
+use Rattle.chain.specs.declared.Outcome.{Outcome}
+use Rattle.chain.specs.declared.Outcome.the-variants as outcome
+use Rattle.chain.specs.declared.Verdict.{Verdict}
+use Rattle.chain.specs.declared.Verdict.the-variants as verdict
+use Rattle.chain.specs.Chain.{freshOf, frameOf, setOf, resetOf}
+use Rattle.image.specs.Image.{image, saveVerdict, savedIn, restoreOf}
+use Rattle.words.specs.Words.{answerWords, settingsFrom}
+
+-- document 01's number; 0: passed
+abbrev pub codeOf : Verdict → ℕ
+codeOf verdict.Passed = 0
+codeOf (verdict.Refused r) = numberOf r
+
+-- a number and the lent bytes after a call
+pub record Left : Type 0 where
+  pub code : ℕ
+  pub bytes : List ℕ
+
+-- and the words of the lent answer
+pub record Answered : Type 0 where
+  pub code : ℕ
+  pub bytes : List ℕ
+  pub words : List ℕ
+
+-- a fresh chain's image into lent bytes
+abbrev pub freshIn : List ℕ → Left
+freshIn b = record { code = codeOf (saveVerdict b); bytes = savedIn freshOf b }
+
+-- whether lent bytes are an image
+abbrev pub codeIn : List ℕ → ℕ
+codeIn b = codeOf (restoreOf freshOf b .verdict)
+
+-- ---- a frame
+
+-- what it leaves of the bytes b and the words a, on a chain
+abbrev pub heardIn : List ℕ → List ℕ → Chain → Outcome → Answered
+heardIn b a c (outcome.Passed x) = record { code = 0; bytes = savedIn c b; words = answerWords x }
+heardIn b a c (outcome.Refused r) = record { code = numberOf r; bytes = b; words = a }
+
+abbrev pub framedIn : List ℕ → List ℕ → Framed → Answered
+framedIn b a f = heardIn b a (f .chain) (f .outcome)
+
+-- where the bytes are an image; else 6, 7 or 8
+abbrev pub openedFrame : List ℕ → List ℕ → List Float → List Float → Chain → Verdict → Answered
+openedFrame b a key bed c verdict.Passed = framedIn b a (frameOf c key bed)
+openedFrame b a key bed c (verdict.Refused r) = record { code = numberOf r; bytes = b; words = a }
+
+unfoldable pub frameIn : List ℕ → List ℕ → List Float → List Float → Answered
+frameIn b a key bed = openedFrame b a key bed (restoreOf freshOf b .chain) (restoreOf freshOf b .verdict)
+
+-- ---- a settings call and a reset
+
+abbrev pub savedAs : List ℕ → Chain → Verdict → Left
+savedAs b c verdict.Passed = record { code = 0; bytes = savedIn c b }
+savedAs b c (verdict.Refused r) = record { code = numberOf r; bytes = b }
+
+abbrev pub changedIn : List ℕ → Changed → Left
+changedIn b r = savedAs b (r .chain) (r .verdict)
+
+abbrev pub openedSet : List ℕ → List ℕ → Chain → Verdict → Left
+openedSet b w c verdict.Passed = changedIn b (setOf c (settingsFrom w))
+openedSet b w c (verdict.Refused r) = record { code = numberOf r; bytes = b }
+
+unfoldable pub setIn : List ℕ → List ℕ → Left
+setIn b w = openedSet b w (restoreOf freshOf b .chain) (restoreOf freshOf b .verdict)
+
+abbrev pub openedReset : List ℕ → ℕ → Chain → Verdict → Left
+openedReset b n c verdict.Passed = changedIn b (resetOf c n)
+openedReset b n c (verdict.Refused r) = record { code = numberOf r; bytes = b }
+
+unfoldable pub resetIn : List ℕ → ℕ → Left
+resetIn b n = openedReset b n (restoreOf freshOf b .chain) (restoreOf freshOf b .verdict)
