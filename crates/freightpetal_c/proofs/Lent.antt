@@ -16,7 +16,7 @@ use Rattle.chain.specs.declared.Verdict.{Verdict}
 use Rattle.chain.specs.declared.Verdict.the-variants as verdict
 use Rattle.chain.specs.Chain.{freshOf, frameOf, setOf, resetOf}
 use Rattle.image.specs.Image.{saveVerdict, savedIn, restoreOf}
-use Rattle.words.specs.Words.{answerWords, settingsFrom}
+use Rattle.words.specs.Words.{answerWords}
 use Rattle.freightpetal_c.specs.Lent.{codeOf, Left, Answered, freshIn, codeIn, heardIn, framedIn, openedFrame, frameIn, savedAs, changedIn, openedSet, setIn, openedReset, resetIn}
 
 pub fresh-left : (b : List ℕ) {b′ : List ℕ} {k : ℕ} {v : Verdict} {c : Chain} → k ≡ codeOf v → v ≡ saveVerdict b → b′ ≡ savedIn c b → c ≡ freshOf
@@ -60,17 +60,17 @@ module _ (b : List ℕ) (o : Changed) {c : Chain} (p : o ≡ restoreOf c b) (n :
     unfolding frameIn frame-by
     frame-closed v e = (λ i. record { code = e i; bytes = b; words = a }) ∙ ap (openedFrame b a key bed (o .chain)) (sym v) ∙ ap frame-by opened
 
-  module _ (w : List ℕ) where
+  module _ (s : Settings) where
     set-by : Changed → Left
-    set-by r = openedSet b w (r .chain) (r .verdict)
+    set-by r = openedSet b s (r .chain) (r .verdict)
 
-    pub set-opened : {l : Left} {s : Settings} {r : Changed} → o .verdict ≡ verdict.Passed → s ≡ settingsFrom w → r ≡ setOf (o .chain) s → l ≡ changedIn b r → l ≡ setIn b w
+    pub set-opened : {l : Left} {s′ : Settings} {r : Changed} → o .verdict ≡ verdict.Passed → s′ ≡ s → r ≡ setOf (o .chain) s′ → l ≡ changedIn b r → l ≡ setIn b s
     unfolding setIn set-by
-    set-opened v q e h = h ∙ ap (changedIn b) (e ∙ ap (setOf (o .chain)) q) ∙ ap (openedSet b w (o .chain)) (sym v) ∙ ap set-by opened
+    set-opened v q e h = h ∙ ap (changedIn b) (e ∙ ap (setOf (o .chain)) q) ∙ ap (openedSet b s (o .chain)) (sym v) ∙ ap set-by opened
 
-    pub set-closed : {k : ℕ} {r : Refusal} → o .verdict ≡ verdict.Refused r → k ≡ numberOf r → record { code = k; bytes = b } ≡ setIn b w
+    pub set-closed : {k : ℕ} {r : Refusal} → o .verdict ≡ verdict.Refused r → k ≡ numberOf r → record { code = k; bytes = b } ≡ setIn b s
     unfolding setIn set-by
-    set-closed v e = (λ i. record { code = e i; bytes = b }) ∙ ap (openedSet b w (o .chain)) (sym v) ∙ ap set-by opened
+    set-closed v e = (λ i. record { code = e i; bytes = b }) ∙ ap (openedSet b s (o .chain)) (sym v) ∙ ap set-by opened
 
   module _ (m : ℕ) where
     reset-by : Changed → Left

@@ -1,5 +1,4 @@
 -- Calls on a lent image: the chain is restored from it, the call runs, and the chain is saved back. Definitions only.
-use mathlib.Core.Path.{_≡_}
 use mathlib.Core.List.{List}
 use Prim.Native.Nat.{ℕ}
 use lib.Ieee.{Float}
@@ -9,11 +8,12 @@ use Rattle.chain.specs.declared.Changed.{Changed}
 use Rattle.chain.specs.declared.Framed.{Framed}
 use Rattle.chain.specs.declared.Outcome.{Outcome}
 use Rattle.chain.specs.declared.Outcome.the-variants as outcome
+use Rattle.chain.specs.declared.Settings.{Settings}
 use Rattle.chain.specs.declared.Verdict.{Verdict}
 use Rattle.chain.specs.declared.Verdict.the-variants as verdict
 use Rattle.chain.specs.Chain.{freshOf, frameOf, setOf, resetOf}
 use Rattle.image.specs.Image.{image, saveVerdict, savedIn, restoreOf}
-use Rattle.words.specs.Words.{answerWords, settingsFrom}
+use Rattle.words.specs.Words.{answerWords}
 
 -- document 01's number; 0: passed
 abbrev pub codeOf : Verdict → ℕ
@@ -66,12 +66,12 @@ savedAs b c (verdict.Refused r) = record { code = numberOf r; bytes = b }
 abbrev pub changedIn : List ℕ → Changed → Left
 changedIn b r = savedAs b (r .chain) (r .verdict)
 
-abbrev pub openedSet : List ℕ → List ℕ → Chain → Verdict → Left
-openedSet b w c verdict.Passed = changedIn b (setOf c (settingsFrom w))
-openedSet b w c (verdict.Refused r) = record { code = numberOf r; bytes = b }
+abbrev pub openedSet : List ℕ → Settings → Chain → Verdict → Left
+openedSet b s c verdict.Passed = changedIn b (setOf c s)
+openedSet b s c (verdict.Refused r) = record { code = numberOf r; bytes = b }
 
-unfoldable pub setIn : List ℕ → List ℕ → Left
-setIn b w = openedSet b w (restoreOf freshOf b .chain) (restoreOf freshOf b .verdict)
+unfoldable pub setIn : List ℕ → Settings → Left
+setIn b s = openedSet b s (restoreOf freshOf b .chain) (restoreOf freshOf b .verdict)
 
 abbrev pub openedReset : List ℕ → ℕ → Chain → Verdict → Left
 openedReset b n c verdict.Passed = changedIn b (resetOf c n)

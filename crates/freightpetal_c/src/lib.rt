@@ -4,6 +4,8 @@
 ghost use mathlib.Core.Path.{_≡_};
 ghost use Rattle.chain.specs.Chain.{freshOf, frameOf};
 ghost use Rattle.image.specs.Image.{restoreOf};
+ghost use Rattle.words.specs.Words.{settingsFrom};
+ghost use Rattle.freightpetal_c.specs.Laws.{LentLaws};
 ghost use Rattle.freightpetal_c.specs.Lent.{codeOf, freshIn, codeIn, framedIn, frameIn, changedIn, setIn, resetIn};
 use chain::Chain;
 use chain::Changed;
@@ -92,7 +94,7 @@ fn changed(image: &mut [u8], c: Changed) -> u64
 // All settings, 12 words in the image's order; the flags, words 7 and 12, are 0 or not. Refusals 6, 7, 8, 3.
 #[no_mangle]
 pub extern "C" fn freightpetal_settings(image: &mut [u8], settings: &[u64; 12]) -> u64
-    ensures { λ r. ⌜ record { code = r; bytes = now (image .exit) } ≡ setIn (now (image .entry)) (now (settings .entry)) ⌝ }
+    ensures { λ r. ⌜ record { code = r; bytes = now (image .exit) } ≡ setIn (now (image .entry)) (settingsFrom (now (settings .entry))) ⌝ }
 {
     let c = freightpetal::restore(freightpetal::new(), image);
     let verdict = c.verdict;
@@ -116,3 +118,8 @@ pub extern "C" fn freightpetal_reset(image: &mut [u8], strand: u64) -> u64
         Verdict::Refused(refusal) => demands::number(refusal),
     }
 }
+
+// What the calls on a lent image come to, over every list of them. The function does nothing: its contract is the promise.
+pub fn lent_laws()
+    ensures { λ _. ⌜ LentLaws ⌝ }
+{}
