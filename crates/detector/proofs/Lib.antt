@@ -10,3 +10,4 @@ pub mod Told
 pub mod Examples
 pub mod Rust
 pub mod Valid
+pub mod Silent

@@ -1,5 +1,6 @@
 -- The detector's filters over the samples of a frame, and the values of the pitch filter that are kept.
-use Prim.Native.Nat.{ℕ, zero, suc}
+use Prim.Native.Nat.{ℕ, zero, suc, _<_}
+use mathlib.Core.Path.{_≡_}
 use mathlib.Core.List.{List, [], _∷_, foldl, map}
 use lib.ListN.{getD, length, take, drop, replicate}
 use lib.Ieee.{Float, nan}
@@ -51,6 +52,11 @@ runOf s xs = foldl stepOf s xs
 unfoldable pub outputsOf : Bands → List Float → List Float
 outputsOf s [] = []
 outputsOf s (x ∷ xs) = stepOf s x .pitch ∷ outputsOf (stepOf s x) xs
+
+-- samples xs that change nothing after the first, which is v, and so does the output
+pub record Quiet (s : Bands) (v : Float) (xs : List Float) : Type 0 where
+  pub runs : 0 < length xs → runOf s xs ≡ stepOf s v
+  pub outputs : outputsOf s xs ≡ replicate (length xs) (stepOf s v .pitch)
 
 -- every eighth value, n of them
 unfoldable pub eighths : ℕ → List Float → List Float

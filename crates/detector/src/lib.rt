@@ -4,7 +4,8 @@ ghost use mathlib.Core.Path.{_≡_};
 ghost use mathlib.Core.Bool.{_&&_};
 ghost use mathlib.Core.List.{_++_};
 ghost use Prim.Native.Nat.{ℕ, _+_, _-_, _≤_, _<_};
-ghost use lib.ListN.{length, take, drop, getD};
+ghost use lib.Dec.{T};
+ghost use lib.ListN.{length, take, drop, getD, replicate};
 ghost use lib.Seq.{paste};
 ghost use lib.Ieee.{nan};
 ghost use Rattle.sequence.specs.History.{laid, held};
@@ -15,6 +16,7 @@ ghost use Rattle.detector.specs.Filters.{
   allAtRest,
   begun,
   stepOf,
+  Quiet,
   runOf,
   outputsOf,
   keptOf,
@@ -135,6 +137,44 @@ impl Bands {
         }
     }
 
+    // Whether a sample v surely leaves all as it is.
+    fn still(self, v: f64) -> bool
+        ensures { λ r. ⌜ (T r → stepOf self v ≡ self) ⌝ }
+    {
+        let n = self.step(v);
+        let f = n.filters;
+        let g = self.filters;
+        f.is(g)
+            & level::same(n.full, self.full)
+            & level::same(n.band, self.band)
+            & level::same(n.pitch, self.pitch)
+    }
+
+    // Whether all samples are v and surely change nothing after the first.
+    pub fn quiet(self, v: f64, xs: &[f64]) -> bool
+        ensures { λ r. ⌜ (T r → Quiet self v (now (xs .entry))) ⌝ }
+    {
+        if level::all_same(v, xs) {
+            let first = self.step(v);
+            return first.still(v);
+        }
+        false
+    }
+
+    // The samples of a frame, and the pitch pair's output for each in out. In silence the first step is all there is to do.
+    pub fn alone(self, xs: &[f64; 480], out: &mut [f64; 480]) -> Bands
+        requires { ⌜ (length (now xs) ≡ 480) × (length (now out) ≡ 480) ⌝ }
+        ensures { λ r. ⌜ (r ≡ runOf self (now (xs .entry))) × (now (out .exit) ≡ outputsOf self (now (xs .entry))) ⌝ }
+    {
+        let v = xs[0];
+        if self.quiet(v, xs) {
+            let first = self.step(v);
+            fill(out, first.pitch);
+            return first;
+        }
+        self.run(xs, out)
+    }
+
     // The samples xs, and the pitch pair's output for each in out, as far as both go.
     pub fn run(mut self, xs: &[f64], out: &mut [f64]) -> Bands
         ensures { λ r. ⌜ (r ≡ runOf self (take (length (now (out .entry))) (now (xs .entry))))
@@ -148,6 +188,37 @@ impl Bands {
             i += 1;
         }
         self
+    }
+}
+
+impl Filters {
+    // Whether both are the same.
+    fn is(self, other: Filters) -> bool
+        ensures { λ r. ⌜ (T r → self ≡ other) ⌝ }
+    {
+        let a = self.high_pass;
+        let b = self.low_pass;
+        let p = self.pitch1;
+        let q = self.pitch2;
+        let c = other.high_pass;
+        let d = other.low_pass;
+        let r = other.pitch1;
+        let s = other.pitch2;
+        level::same_state(a, c)
+            & level::same_state(b, d)
+            & level::same_state(p, r)
+            & level::same_state(q, s)
+    }
+}
+
+// The value y in every place.
+fn fill(out: &mut [f64], y: f64)
+    ensures { λ _. ⌜ now (out .exit) ≡ replicate (length (now (out .entry))) y ⌝ }
+{
+    let mut i = 0;
+    while i < out.len() {
+        out[i] = y;
+        i += 1;
     }
 }
 

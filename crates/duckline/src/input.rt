@@ -26,16 +26,18 @@ fn wide(b: u8) -> u32 {
     b as u32
 }
 
+// The 16 bits at `at`, the low byte first. Of two halves the compiler reads a sample's four bytes at once.
+fn half(buffer: &[u8; BUFFER], at: usize) -> u32
+    requires { ⌜ at + 2 ≤ 61440 ⌝ }
+{
+    wide(buffer[at]) | wide(buffer[at + 1]) << 8
+}
+
 // The sample whose first byte is at `at`.
 fn sample(buffer: &[u8; BUFFER], at: usize) -> f32
     requires { ⌜ at + 4 ≤ 61440 ⌝ }
 {
-    float::from_bits32(
-        wide(buffer[at])
-            | wide(buffer[at + 1]) << 8
-            | wide(buffer[at + 2]) << 16
-            | wide(buffer[at + 3]) << 24,
-    )
+    float::from_bits32(half(buffer, at) | half(buffer, at + 2) << 16)
 }
 
 // The strand whose first byte is at `first`.

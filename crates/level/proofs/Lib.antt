@@ -5,3 +5,4 @@ pub mod Filter
 pub mod Squares
 pub mod Bs1770
 pub mod Valid
+pub mod Silence

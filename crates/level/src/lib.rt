@@ -1,9 +1,12 @@
 // A strand's loudness by BS.1770, for each frame of 10 ms: momentary (400 ms), short-term (3 s) and fast (50 ms).
 // Before 400 ms or 3 s of frames the missing ones count as silence.
 ghost use mathlib.Core.Path.{_≡_};
-ghost use lib.ListN.{length};
+ghost use mathlib.Core.List.{foldl};
+ghost use lib.Dec.{T};
+ghost use lib.ListN.{length, replicate};
+ghost use Rattle.biquad.specs.Tick.{tickOf};
 ghost use Rattle.level.specs.Finite.{allFinite};
-ghost use Rattle.level.specs.Weighing.{cleanOf, stepOf, runOf};
+ghost use Rattle.level.specs.Weighing.{cleanOf, stepOf, shelfOutput, heldStep, heldRun, runOf};
 ghost use Rattle.level.specs.Level.{
   joinedOf,
   zeros,
@@ -19,6 +22,7 @@ ghost use Rattle.level.specs.Level.{
   freshOf,
   frameOf,
 };
+use biquad::Coefficients;
 use biquad::K_HIGH_PASS;
 use biquad::K_SHELF;
 use biquad::State;
@@ -107,6 +111,50 @@ pub fn all_finite(v: &[f64]) -> bool
     true
 }
 
+// Whether a and b are surely the same: the same bits, and no NaN.
+pub fn same(a: f64, b: f64) -> bool
+    ensures { λ r. ⌜ (T r → a ≡ b) ⌝ }
+{
+    if a != a {
+        return false;
+    }
+    if b != b {
+        return false;
+    }
+    f64::to_bits(a) == f64::to_bits(b)
+}
+
+// Whether every value is surely x.
+pub fn all_same(x: f64, xs: &[f64]) -> bool
+    ensures { λ r. ⌜ (T r → now (xs .entry) ≡ replicate (length (now (xs .entry))) x) ⌝ }
+{
+    let mut i = 0;
+    while i < xs.len() {
+        if same(xs[i], x) {
+            i += 1;
+        } else {
+            return false;
+        }
+    }
+    true
+}
+
+// Whether two sections are surely in the same state.
+pub fn same_state(s: State, t: State) -> bool
+    ensures { λ r. ⌜ (T r → s ≡ t) ⌝ }
+{
+    same(s.z1, t.z1) & same(s.z2, t.z2)
+}
+
+// Whether a sample x surely leaves a section's state as it is. In silence rounding holds its numbers at last.
+pub fn holds(s: State, c: Coefficients, x: f64) -> bool
+    ensures { λ r. ⌜ (T r → tickOf s c x .state ≡ s) ⌝ }
+{
+    let t = s.tick(c, x);
+    let next = t.state;
+    same_state(next, s)
+}
+
 // A sample as it is heard: 0 in place of one that isn't finite.
 pub fn clean(v: f32) -> f64
     ensures { λ r. ⌜ r ≡ cleanOf v ⌝ }
@@ -135,6 +183,43 @@ impl Weighing {
             fast: self.fast * FAST_COEFF + y2 * (1.0 - FAST_COEFF),
             energy: self.energy + y2,
         }
+    }
+
+    // One sample for which the shelf's output is v and its state stays.
+    pub fn held_step(self, v: f64) -> Weighing
+        ensures { λ r. ⌜ r ≡ heldStep v self ⌝ }
+    {
+        let shelf = self.shelf;
+        let high_pass = self.high_pass;
+        let b = high_pass.tick(K_HIGH_PASS, v);
+        let y2 = b.y * b.y;
+        let h = b.state;
+        Weighing {
+            shelf,
+            high_pass: h,
+            fast: self.fast * FAST_COEFF + y2 * (1.0 - FAST_COEFF),
+            energy: self.energy + y2,
+        }
+    }
+
+    // The shelf's output for a sample x.
+    pub fn shelf_output(self, x: f64) -> f64
+        ensures { λ r. ⌜ r ≡ shelfOutput self x ⌝ }
+    {
+        let shelf = self.shelf;
+        let a = shelf.tick(K_SHELF, x);
+        a.y
+    }
+
+    // Whether all samples are x and surely leave the shelf's state as it is.
+    pub fn rests(self, x: f64, xs: &[f64]) -> bool
+        ensures { λ r. ⌜ (T r → heldRun (shelfOutput self x) self (now (xs .entry)) ≡ foldl stepOf self (now (xs .entry))) ⌝ }
+    {
+        let shelf = self.shelf;
+        if all_same(x, xs) {
+            return holds(shelf, K_SHELF, x);
+        }
+        false
     }
 
     // All samples of a frame.

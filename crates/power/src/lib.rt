@@ -3,7 +3,6 @@ use float::Kind;
 use float::Parts;
 ghost use mathlib.Core.Path.{_≡_};
 ghost use Prim.Native.Nat.{_+_, _-_, _*_, _/_, _^_, _≤_, _<_};
-ghost use lib.ListN.{getD};
 ghost use Rattle.power.specs.Roots.{roots};
 ghost use Rattle.power.specs.Power.{raise, above, floorUnits, powAt, exp2Of, expOf, exp10Of, exp60Of};
 
@@ -52,12 +51,11 @@ const ROOTS: [u64; 24] = [
     1073741867,
 ];
 
-// The root for the bit i of a fraction, the half being bit 0.
-fn root(i: usize) -> u64
-    requires { ⌜ i < 24 ⌝ }
-    ensures { λ r. ⌜ r ≡ getD roots i 0 ⌝ }
+// The roots for the bits of a fraction, the half's first. An index into the constant itself would lay out the whole table each time.
+fn all_roots() -> [u64; 24]
+    ensures { λ r. ⌜ r ≡ roots ⌝ }
 {
-    ROOTS[i]
+    ROOTS
 }
 
 // 2^(f / 2^24), in units of 2^-30: the product of the roots of f's set bits. `power_at` shows the bound.
@@ -65,11 +63,13 @@ fn fraction(f: u64) -> u64
     requires { ⌜ f < 2 ^ 24 ⌝ }
     ensures { λ r. ⌜ (r ≡ raise roots f (2 ^ 30)) × (2 ^ 30 ≤ r) × (r < 2 ^ 31) ⌝ }
 {
+    let table = all_roots();
     let mut m = ONE;
     let mut i = 0usize;
     while i < 24 {
         let bit = (f >> (23 - i)) % 2;
-        m = m * (ONE + bit * (root(i) - ONE)) / ONE;
+        let root = table[i];
+        m = m * (ONE + bit * (root - ONE)) / ONE;
         i += 1;
     }
     m

@@ -12,7 +12,7 @@ use Rattle.sequence.proofs.Fold.{fold-turn, fold-end}
 use Rattle.detector.specs.declared.Bands.{Bands}
 use Rattle.detector.specs.Filters.{stepOf, outputsOf}
 use Rattle.detector.proofs.Outputs.{outputs-turn, outputs-end}
-use Rattle.chain.specs.Strands.{bandedOf}
+use Rattle.chain.specs.Strands.{bandedOf, bandedPairs}
 use Rattle.chain.proofs.band.Statement.{statement}
 use Rattle.chain.proofs.band.Tie as tie
 
@@ -91,14 +91,17 @@ loop-again c =
       outputs-turn (l .b) (r .result) (a .ys .now) (l .also) (l .i) (r .ensures) (omega arith) (omega arith) ∙ l .inv .8,
     )
 
+pairs-requires : tie.Need-pairs-requires Inv-loop μ-loop
+pairs-requires c κs = search needs
+
 returns : tie.Need-returns Inv-loop μ-loop
 unfolding bandedOf
 returns c =
-    let l = c .before .loop in
-    let a = c .before .before .args in
+    let l = c .before .before .loop in
+    let a = c .before .before .before .args in
     let k = fold-end stepOf (l .k) (a .xs .now) (l .i) (omega arith) ∙ l .inv .5 in
     let b = fold-end stepOf (l .b) (a .ys .now) (l .i) (omega arith) ∙ l .inv .6 in (
-      λ i. record { key = k i; bed = b i },
+      c .pairs .ensures ∙ (λ i. bandedPairs (record { key = k i; bed = b i })),
       all-stored (l .k) (a .xs .now) (l .out) (outputsOf (a .key) (a .xs .now)) (l .i) (omega arith) (omega arith) (l .inv .7),
       all-stored (l .b) (a .ys .now) (l .also) (outputsOf (a .bed) (a .ys .now)) (l .i) (omega arith) (omega arith) (l .inv .8),
     )
@@ -123,4 +126,5 @@ band-spec =
     add-i
     loop-less
     loop-again
+    pairs-requires
     returns)

@@ -8,7 +8,7 @@ use lib.Ieee.{nan}
 use borrow.Author.Needs.{needs}
 use Rattle.sequence.proofs.Fold.{fold-turn, fold-end}
 use Rattle.level.specs.Weighing.{stepOf}
-use Rattle.chain.specs.Strands.{weighedOf}
+use Rattle.chain.specs.Strands.{weighedOf, weighedPairs}
 use Rattle.chain.proofs.weigh.Statement.{statement}
 use Rattle.chain.proofs.weigh.Tie as tie
 
@@ -59,14 +59,17 @@ loop-again c =
       fold-turn stepOf nan (l .b) (r .result) (a .ys .now) (l .i) (r .ensures) (omega arith) ∙ l .inv .4,
     )
 
+pairs-requires : tie.Need-pairs-requires Inv-loop μ-loop
+pairs-requires c κs = search needs
+
 returns : tie.Need-returns Inv-loop μ-loop
 unfolding weighedOf
 returns c =
-    let l = c .before .loop in
-    let a = c .before .before .args in
+    let l = c .before .before .loop in
+    let a = c .before .before .before .args in
     let k = fold-end stepOf (l .k) (a .xs .now) (l .i) (omega arith) ∙ l .inv .3 in
     let b = fold-end stepOf (l .b) (a .ys .now) (l .i) (omega arith) ∙ l .inv .4 in
-    λ i. record { key = k i; bed = b i }
+    c .pairs .ensures ∙ (λ i. weighedPairs (record { key = k i; bed = b i }))
 
 pub weigh-spec : {M : Type 1} → statement M
 weigh-spec =
@@ -84,4 +87,5 @@ weigh-spec =
     add-i
     loop-less
     loop-again
+    pairs-requires
     returns)

@@ -10,8 +10,8 @@ start-requires c κs = search needs
 start-requires-2 : tie.Need-start-requires-2
 start-requires-2 c κs = search needs
 
-weigh-requires : tie.Need-weigh-requires
-weigh-requires c κs = search needs
+weigh-frame-requires : tie.Need-weigh-frame-requires
+weigh-frame-requires c κs = search needs
 
 no-outputs-requires : tie.Need-no-outputs-requires
 no-outputs-requires c κs = search needs
@@ -25,8 +25,8 @@ begin-requires c κs = search needs
 begin-requires-2 : tie.Need-begin-requires-2
 begin-requires-2 c κs = search needs
 
-band-requires : tie.Need-band-requires
-band-requires c κs =
+band-frame-requires : tie.Need-band-frame-requires
+band-frame-requires c κs =
     let w = c .before .before .before .before .before .before .before .before .before .before .before .before .before .before .before .before .before .before .before .before .pre in
     (w .0, w .1, c .before .before .before .before .before .no-outputs .ensures, c .before .before .before .before .no-outputs2 .ensures)
 
@@ -42,15 +42,15 @@ returns c =
     simp (
       c .finished2 .ensures,
       c .before .before .finished .ensures,
-      c .before .before .before .before .before .before .before .before .band .ensures .0,
-      c .before .before .before .before .before .before .before .before .band .ensures .1,
-      c .before .before .before .before .before .before .before .before .band .ensures .2,
-      c .before .before .before .before .before .before .before .before .before .before .before .before .before .before .before .weigh .ensures,
-      c .before .before .before .before .before .before .before .before .before .before .before .begin2 .ensures,
-      c .before .before .before .before .before .before .before .before .before .before .before .before .begin .ensures,
-      c .before .before .before .before .before .before .before .before .before .before .before .before .before .before .before .before .start2 .ensures,
-      c .before .before .before .before .before .before .before .before .before .before .before .before .before .before .before .before .before .start .ensures,
+      c .before .before .before .before .band-frame .ensures .0,
+      c .before .before .before .before .band-frame .ensures .1,
+      c .before .before .before .before .band-frame .ensures .2,
+      c .before .before .before .before .before .before .before .before .before .before .before .weigh-frame .ensures,
+      c .before .before .before .before .before .before .before .begin2 .ensures,
+      c .before .before .before .before .before .before .before .before .begin .ensures,
+      c .before .before .before .before .before .before .before .before .before .before .before .before .start2 .ensures,
+      c .before .before .before .before .before .before .before .before .before .before .before .before .before .start .ensures,
     )
 
 pub strands-spec : {M : Type 1} → statement M
-strands-spec = tie.close (tie.spec start-requires start-requires-2 weigh-requires no-outputs-requires no-outputs-requires-2 begin-requires begin-requires-2 band-requires finished-requires finished-requires-2 returns)
+strands-spec = tie.close (tie.spec start-requires start-requires-2 weigh-frame-requires no-outputs-requires no-outputs-requires-2 begin-requires begin-requires-2 band-frame-requires finished-requires finished-requires-2 returns)

@@ -1,0 +1,64 @@
+-- `level::all_same` meets its contract. The loop's invariant: where all that are left are x, all are.
+use Prim.Native.Nat.{_-_, _≤_}
+use native.Mathlib.Omega.{arith}
+use mathlib.Core.Path.{sym, subst}
+use lib.Dec.{T}
+use lib.ListN.{length, drop}
+use borrow.Author.Needs.{needs}
+use Rattle.level.proofs.Silence.{Same, same-turn, same-end}
+use Rattle.level.proofs.all_same.Statement.{statement}
+use Rattle.level.proofs.all_same.Tie as tie
+
+abbrev Inv-loop : tie.InvT-loop
+Inv-loop x xs i₀ i = (i ≤ length xs) × (Same x (drop i xs) → Same x xs)
+
+abbrev μ-loop : tie.MeasureT-loop
+μ-loop x xs i₀ i = length xs - i
+
+loop-holds : tie.Need-loop-holds Inv-loop μ-loop
+loop-holds c = (omega arith, λ s. s)
+
+mul-same : tie.Need-mul-same Inv-loop μ-loop
+mul-same c = search needs
+
+shared-slice-read-same : tie.Need-shared-slice-read-same Inv-loop μ-loop
+shared-slice-read-same c = search needs
+
+same-requires : tie.Need-same-requires Inv-loop μ-loop
+same-requires c κs = search needs
+
+add-i : tie.Need-add-i Inv-loop μ-loop
+add-i c = search needs
+
+loop-less : tie.Need-loop-less Inv-loop μ-loop
+loop-less c = search needs
+
+loop-again : tie.Need-loop-again Inv-loop μ-loop
+loop-again c =
+    let l = c .before .before .before .before .loop in
+    let a = c .before .before .before .before .before .before .args in
+    (omega arith, λ s. l .inv .1 (same-turn (a .x) (a .xs .now) (l .i) (omega arith) (c .before .same .ensures (subst T (sym (c .if1 .taken)) tt)) s))
+
+returns : tie.Need-returns Inv-loop μ-loop
+returns c = λ t. absurd t
+
+returns-2 : tie.Need-returns-2 Inv-loop μ-loop
+returns-2 c =
+    let a = c .before .before .before .args in
+    λ t. c .before .loop .inv .1 (same-end (a .x) (a .xs .now) (c .before .loop .i) (omega arith))
+
+pub all-same-spec : {M : Type 1} → statement M
+all-same-spec =
+    tie.close
+    (tie.spec
+    Inv-loop
+    μ-loop
+    loop-holds
+    mul-same
+    shared-slice-read-same
+    same-requires
+    add-i
+    loop-less
+    loop-again
+    returns
+    returns-2)
