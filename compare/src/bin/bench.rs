@@ -1,11 +1,13 @@
 //! ns a call of Rust's own functions and of the stand-ins on typical arguments, of
-//! Level::frame, and of the whole chain a frame (speech and a noisy bed).
+//! Level::frame, of detector and decision, and of the whole chain a frame (speech and a
+//! noisy bed; with an argument noisy speech in both, which has no digital silence).
 
 use std::hint::black_box;
 use std::time::Instant;
 
 use compare::auto::level::Level;
-use compare::driver::Chain;
+use compare::auto::vad::Vad;
+use compare::driver::{Chain, Settings};
 use compare::random::Random;
 use compare::signals::{Signal, FULL, LOW, NOISY_SPEECH, SPEECH};
 use compare::standins;
@@ -56,7 +58,12 @@ fn main() {
             .map(|i| signal.samples(i * 480, 480))
             .collect()
     };
-    let key = frames(Signal::new(SPEECH, 400, FULL));
+    let kind = if std::env::args().len() > 1 {
+        NOISY_SPEECH
+    } else {
+        SPEECH
+    };
+    let key = frames(Signal::new(kind, 400, FULL));
     let bed = frames(Signal::new(NOISY_SPEECH, 333, LOW));
     let level = best(count, || {
         let mut level = Level::new(vec![1.0]);
@@ -65,6 +72,16 @@ fn main() {
         }
     });
     println!("{:<28} {level:10.0} ns", "Level::frame");
+    let settings = [0, 1].map(|strand| Settings::default().vad(strand));
+    let decided = best(count, || {
+        let mut strands = [Vad::default(), Vad::default()];
+        for (k, b) in key.iter().zip(&bed) {
+            strands[0].frame(black_box(k), -20.0, &settings[0]);
+            strands[1].frame(black_box(b), -20.0, &settings[1]);
+        }
+        black_box(&strands);
+    });
+    println!("{:<28} {decided:10.0} ns", "detector, decision, both");
     let plain = best(count, || {
         let mut chain = Chain::default();
         for (k, b) in key.iter().zip(&bed) {

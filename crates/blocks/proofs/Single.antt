@@ -30,7 +30,7 @@ module _ (k : ℕ) (b b′ : List ℕ) (c : OneWord k b b′) where
       ]))
 
   -- it lies in the bytes
-  inside : (n : ℕ) → length b ≡ blockBytes * n → k < blockWords * n
+  pub inside : (n : ℕ) → length b ≡ blockBytes * n → k < blockWords * n
   inside n l = elim (decLt k (blockWords * n)) [
     | yes h ↦ h
     | no h ↦ absurd (c .differ (ext-getD 0 b′ b (c .size) (λ i g. c .elsewhere i (λ z. h (omega (arith, c .size))))))

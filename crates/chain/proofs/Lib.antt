@@ -10,3 +10,4 @@ pub mod Promise
 pub mod Silence
 pub mod Witness
 pub mod Dead
+pub mod Outputs

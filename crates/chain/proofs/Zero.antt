@@ -50,7 +50,7 @@ at-most r x n h = let i = inside r x h in not-lt (r .high) x n (number x (i .fin
 two-le : (k : ℕ) → 2 ≤ 2 ^ suc k
 two-le k = pow-mono {i = 1} {j = suc k} (omega arith)
 
-zero-exponent : (s : Bool) (e : ℤ) → T (fits binary64 (fin s zero e)) → e ≡ pos 0
+pub zero-exponent : (s : Bool) (e : ℤ) → T (fits binary64 (fin s zero e)) → e ≡ pos 0
 unfolding fits
 zero-exponent s (pos zero) h = refl
 zero-exponent s (pos (suc k)) h = absurd (omega (arith, eqb→eq (2 ^ suc k * 1) 1 h, two-le k))

@@ -26,6 +26,7 @@ use Rattle.chain.specs.declared.Pair.{Pair}
 use Rattle.chain.specs.declared.States.{States}
 use Rattle.chain.specs.declared.WeighedPairs.{WeighedPairs}
 use Rattle.chain.specs.declared.BandedPairs.{BandedPairs}
+use Rattle.chain.specs.declared.Filtered.{Filtered}
 use Rattle.chain.specs.declared.Strands.{Strands}
 
 -- 480 samples of each strand, all finite
@@ -95,6 +96,10 @@ bandsAt p bed = record {
   band = numberAt (p .band) bed;
   pitch = numberAt (p .pitch) bed;
 }
+
+-- both strands' filters over their samples
+unfoldable pub filteredOf : Weighed → Banded → List Float → List Float → Filtered
+filteredOf w f xs ys = record { weighed = weighedPairs (weighedOf (w .key) (w .bed) xs ys); banded = bandedPairs (bandedOf (f .key) (f .bed) xs ys) }
 
 -- ---- after the filters
 

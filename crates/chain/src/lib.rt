@@ -16,6 +16,7 @@ ghost use Rattle.chain.specs.Strands.{
   weighingAt,
   bandedPairs,
   bandsAt,
+  filteredOf,
   finishedOf,
   strandsOf,
 };
@@ -201,6 +202,12 @@ pub struct BandedPairs {
     pub full: Pair,
     pub band: Pair,
     pub pitch: Pair,
+}
+
+// Both, after a frame.
+struct Filtered {
+    weighed: WeighedPairs,
+    banded: BandedPairs,
 }
 
 // Both strands after a frame.
@@ -613,6 +620,71 @@ fn band_frame(
     band(key, bed, xs, ys, out, also)
 }
 
+// The level's and the detector's filters in one loop: neither waits for the other.
+fn filter(
+    weighed: Weighed,
+    banded: Banded,
+    xs: &[f64; 480],
+    ys: &[f64; 480],
+    out: &mut [f64; 480],
+    also: &mut [f64; 480],
+) -> Filtered
+    requires { ⌜ (length (now xs) ≡ frameLength) × (length (now ys) ≡ frameLength) × (length (now out) ≡ frameLength) × (length (now also) ≡ frameLength) ⌝ }
+    ensures { λ r. ⌜ (r ≡ filteredOf weighed banded (now (xs .entry)) (now (ys .entry))) × (now (out .exit) ≡ outputsOf (banded .key) (now (xs .entry)))
+        × (now (also .exit) ≡ outputsOf (banded .bed) (now (ys .entry))) ⌝ }
+{
+    let mut v = weighed.key;
+    let mut w = weighed.bed;
+    let mut p = banded.key;
+    let mut q = banded.bed;
+    let mut i = 0;
+    while i < FRAME {
+        let x = xs[i];
+        let y = ys[i];
+        v = v.step(x);
+        w = w.step(y);
+        p = p.step(x);
+        q = q.step(y);
+        out[i] = p.pitch;
+        also[i] = q.pitch;
+        i += 1;
+    }
+    let l = Weighed { key: v, bed: w };
+    let f = Banded { key: p, bed: q };
+    Filtered {
+        weighed: l.pairs(),
+        banded: f.pairs(),
+    }
+}
+
+// All filters over a frame; where a strand's samples are all the same, it may be at rest.
+fn filter_frame(
+    weighed: Weighed,
+    banded: Banded,
+    xs: &[f64; 480],
+    ys: &[f64; 480],
+    out: &mut [f64; 480],
+    also: &mut [f64; 480],
+) -> Filtered
+    requires { ⌜ (length (now xs) ≡ frameLength) × (length (now ys) ≡ frameLength) × (length (now out) ≡ frameLength) × (length (now also) ≡ frameLength) ⌝ }
+    ensures { λ r. ⌜ (r ≡ filteredOf weighed banded (now (xs .entry)) (now (ys .entry))) × (now (out .exit) ≡ outputsOf (banded .key) (now (xs .entry)))
+        × (now (also .exit) ≡ outputsOf (banded .bed) (now (ys .entry))) ⌝ }
+{
+    if level::all_same(xs[0], xs) | level::all_same(ys[0], ys) {
+        let v = weighed.key;
+        let u = weighed.bed;
+        let k = banded.key;
+        let b = banded.bed;
+        let w = weigh_frame(v, u, xs, ys);
+        let f = band_frame(k, b, xs, ys, out, also);
+        return Filtered {
+            weighed: w,
+            banded: f,
+        };
+    }
+    filter(weighed, banded, xs, ys, out, also)
+}
+
 fn no_outputs() -> [f64; 480]
     ensures { λ r. ⌜ length r ≡ frameLength ⌝ }
 {
@@ -698,17 +770,19 @@ impl Chain {
         let bed_detector = bed.detector;
         let key_filters = key_detector.filters;
         let bed_filters = bed_detector.filters;
-        let w = weigh_frame(key_level.start(), bed_level.start(), xs, ys);
+        let weighed = Weighed {
+            key: key_level.start(),
+            bed: bed_level.start(),
+        };
+        let banded = Banded {
+            key: key_filters.begin(),
+            bed: bed_filters.begin(),
+        };
         let mut out = no_outputs();
         let mut also = no_outputs();
-        let f = band_frame(
-            key_filters.begin(),
-            bed_filters.begin(),
-            xs,
-            ys,
-            &mut out,
-            &mut also,
-        );
+        let t = filter_frame(weighed, banded, xs, ys, &mut out, &mut also);
+        let w = t.weighed;
+        let f = t.banded;
         let k = finished(key, w, f, false, &out, key_settings);
         let b = finished(bed, w, f, true, &also, bed_settings);
         Strands { key: k, bed: b }

@@ -1,5 +1,6 @@
 -- The detector's filters over the samples of a frame, and the values of the pitch filter that are kept.
 use Prim.Native.Nat.{ℕ, zero, suc, _<_}
+use mathlib.Core.Bool.{Bool, _&&_}
 use mathlib.Core.Path.{_≡_}
 use mathlib.Core.List.{List, [], _∷_, foldl, map}
 use lib.ListN.{getD, length, take, drop, replicate}
@@ -10,6 +11,7 @@ use Rattle.biquad.specs.Sections.{bandHighPass, bandLowPass, pitch1, pitch2}
 use Rattle.narrow.specs.Narrow.{narrowOf}
 use Rattle.sequence.specs.History.{laid, countAfter, placesAfter}
 use Rattle.level.specs.Bs1770.{_⊕_, _⊗_, zero64}
+use Rattle.level.specs.Same.{sameOf, allSame, sameState}
 use Rattle.detector.specs.declared.Filters.{Filters}
 use Rattle.detector.specs.declared.Bands.{Bands}
 use Rattle.detector.specs.declared.Decimated.{Decimated}
@@ -52,6 +54,25 @@ runOf s xs = foldl stepOf s xs
 unfoldable pub outputsOf : Bands → List Float → List Float
 outputsOf s [] = []
 outputsOf s (x ∷ xs) = stepOf s x .pitch ∷ outputsOf (stepOf s x) xs
+
+unfoldable pub sameFilters : Filters → Filters → Bool
+sameFilters f g =
+    sameState (f .«high_pass») (g .«high_pass»)
+    && sameState (f .«low_pass») (g .«low_pass»)
+    && sameState (f .pitch1) (g .pitch1)
+    && sameState (f .pitch2) (g .pitch2)
+
+unfoldable pub sameBands : Bands → Bands → Bool
+sameBands s t =
+    sameFilters (s .filters) (t .filters) && sameOf (s .full) (t .full) && sameOf (s .band) (t .band) && sameOf (s .pitch) (t .pitch)
+
+-- a sample v leaves all as it is
+unfoldable pub stillOf : Bands → Float → Bool
+stillOf s v = sameBands (stepOf s v) s
+
+-- all samples are v, which changes nothing after the first
+unfoldable pub quietOf : Bands → Float → List Float → Bool
+quietOf s v xs = allSame v xs && stillOf (stepOf s v) v
 
 -- samples xs that change nothing after the first, which is v, and so does the output
 pub record Quiet (s : Bands) (v : Float) (xs : List Float) : Type 0 where

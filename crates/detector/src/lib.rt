@@ -16,6 +16,9 @@ ghost use Rattle.detector.specs.Filters.{
   allAtRest,
   begun,
   stepOf,
+  sameFilters,
+  stillOf,
+  quietOf,
   Quiet,
   runOf,
   outputsOf,
@@ -139,12 +142,12 @@ impl Bands {
 
     // Whether a sample v surely leaves all as it is.
     fn still(self, v: f64) -> bool
-        ensures { λ r. ⌜ (T r → stepOf self v ≡ self) ⌝ }
+        ensures { λ r. ⌜ (r ≡ stillOf self v) × (T r → stepOf self v ≡ self) ⌝ }
     {
         let n = self.step(v);
         let f = n.filters;
         let g = self.filters;
-        f.is(g)
+        f.same(g)
             & level::same(n.full, self.full)
             & level::same(n.band, self.band)
             & level::same(n.pitch, self.pitch)
@@ -152,7 +155,7 @@ impl Bands {
 
     // Whether all samples are v and surely change nothing after the first.
     pub fn quiet(self, v: f64, xs: &[f64]) -> bool
-        ensures { λ r. ⌜ (T r → Quiet self v (now (xs .entry))) ⌝ }
+        ensures { λ r. ⌜ (r ≡ quietOf self v (now (xs .entry))) × (T r → Quiet self v (now (xs .entry))) ⌝ }
     {
         if level::all_same(v, xs) {
             let first = self.step(v);
@@ -192,9 +195,9 @@ impl Bands {
 }
 
 impl Filters {
-    // Whether both are the same.
-    fn is(self, other: Filters) -> bool
-        ensures { λ r. ⌜ (T r → self ≡ other) ⌝ }
+    // Whether both are surely the same.
+    fn same(self, other: Filters) -> bool
+        ensures { λ r. ⌜ (r ≡ sameFilters self other) × (T r → self ≡ other) ⌝ }
     {
         let a = self.high_pass;
         let b = self.low_pass;

@@ -1,6 +1,6 @@
 -- Which bit patterns are a NaN's: those above the infinity's, the sign taken off. One law over both formats.
 use mathlib.Core.Path.{_≡_, refl, sym, _∙_, subst}
-use mathlib.Core.Bool.{Bool, true, not}
+use mathlib.Core.Bool.{Bool, not}
 use Prim.Native.Nat.{ℕ, _*_, _%_, _≤_, _<_}
 use lib.Dec.{T}
 use borrow.Author.Tests.{lt-ltb, le-ltb}

@@ -6,10 +6,9 @@ use native.Mathlib.Omega.{arith}
 use borrow.Author.Tests.{eq-eqb}
 use lib.Ieee.{Float}
 use lib.ListN.{length}
-use Rattle.demands.specs.declared.Refusal.{Refusal}
 use Rattle.demands.specs.Table.{numberOf}
-use Rattle.demands.specs.Calls.{Log, empty, _▹_, Reply, refusal, passed, answer, Step, gets, eventCalls}
-use Rattle.demands.specs.Demands.{after, sees, from}
+use Rattle.demands.specs.Calls.{Log, empty, _▹_, Reply, refusal, passed, answer, Step, eventCalls}
+use Rattle.demands.specs.Demands.{after, from}
 use Rattle.demands.proofs.Demands.{events-valid}
 use Rattle.chain.specs.declared.Answer.{Answer}
 use Rattle.chain.specs.declared.Chain.{Chain}
@@ -24,7 +23,7 @@ use Rattle.chain.specs.Rules.{Event, frame, settings, reset, Answered, shown, r
 use Rattle.chain.specs.Valid.{Valid}
 use Rattle.chain.proofs.Laws.{laws, refused, passes}
 use Rattle.image.specs.Layout.{imageBytes}
-use Rattle.image.specs.Image.{image, saveVerdict, savedIn, restoreOf}
+use Rattle.image.specs.Image.{image, saveVerdict, savedIn}
 use Rattle.image.proofs.Laws.{image-length, restore-image}
 use Rattle.words.specs.Words.{answerWords}
 use Rattle.freightpetal_c.specs.Lent.{codeOf, Answered as Told, heardIn, framedIn, openedFrame, frameIn, savedAs, changedIn, setIn, resetIn}

@@ -9,7 +9,6 @@ use Rattle.chain.specs.declared.Answer.{Answer}
 use Rattle.chain.specs.declared.Chain.{Chain}
 use Rattle.chain.specs.declared.Changed.{Changed}
 use Rattle.chain.specs.declared.Framed.{Framed}
-use Rattle.chain.specs.declared.Outcome.{Outcome}
 use Rattle.chain.specs.declared.Outcome.the-variants as outcome
 use Rattle.chain.specs.declared.Settings.{Settings}
 use Rattle.chain.specs.declared.Verdict.{Verdict}

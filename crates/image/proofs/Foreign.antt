@@ -14,7 +14,7 @@ use Rattle.demands.specs.declared.Refusal.the-variants.{ForeignImage}
 use Rattle.demands.specs.Table.{numberOf}
 use Rattle.chain.specs.declared.Chain.{Chain}
 use Rattle.chain.specs.Valid.{Valid}
-use Rattle.strand_image.proofs.Again.{Iff}
+use Rattle.codec.proofs.Again.{Iff}
 use Rattle.image.specs.Layout.{blockCount, imageBytes, payloadWords}
 use Rattle.image.specs.Image.{wordsOf, image, ours, refusesImage}
 use Rattle.image.specs.Words.{PayloadWords}

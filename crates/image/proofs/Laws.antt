@@ -2,19 +2,17 @@
 use mathlib.Core.Path.{_≡_, refl, sym, ap, _∙_}
 use mathlib.Core.Bool.{Bool, true, false, not, cond}
 use mathlib.Core.List.{List, [], _∷_}
-use Prim.Native.Nat.{ℕ, _/_, _*_, _<_}
-use native.Mathlib.Decide.{decLt}
+use Prim.Native.Nat.{ℕ, _/_}
 use native.Mathlib.Omega.{arith}
 use borrow.Author.Tests.{eq-eqb, ne-eqb, eqb-true}
 use lib.Dec.{eqb}
 use lib.ListN.{length}
-use lib.Seq.{ext-getD}
 use Rattle.blocks.specs.Lists.{Words}
 use Rattle.blocks.specs.Words.{blockWords, firstBad}
 use Rattle.blocks.specs.Image.{payloadOf, OneWord}
 use Rattle.blocks.proofs.Lists.{same-refl, same-eq}
 use Rattle.blocks.proofs.Images as images
-use Rattle.blocks.proofs.Single.{one-word-caught}
+use Rattle.blocks.proofs.Single.{inside, one-word-caught}
 use Rattle.codec.proofs.Accepted.{dec-enc, enc-inj}
 use Rattle.demands.specs.declared.Refusal.{Refusal}
 use Rattle.demands.specs.declared.Refusal.the-variants.{WrongLength, BadCheck, ForeignImage}
@@ -134,18 +132,12 @@ restore-image old c v = restore-accepted (image c) old (image-accepted c v) ∙ 
 -- ---- a change within a single word of an accepted image is always caught, with 7
 
 module _ (k : ℕ) (b b′ : List ℕ) (one : OneWord k b b′) (e : refusesImage b ≡ 0) where
-  inside : k < blockWords * blockCount
-  inside = let l = accepted b e .0 in elim (decLt k (blockWords * blockCount)) [
-    | yes h ↦ h
-    | no h ↦ absurd (one .differ (ext-getD 0 b′ b (one .size) (λ i g. one .elsewhere i (λ z. h (omega (arith, one .size, l))))))
-  ]
-
   pub one-word-refused : refusesImage b′ ≡ numberOf BadCheck
   unfolding refusesImage
   one-word-refused =
       let a = accepted b (unfold refusesImage in e) in
       let f : firstBad b′ ≡ k / blockWords = one-word-caught k b b′ one blockCount (a .0) (a .1) in
-      let n : firstBad b′ ≡ blockCount → ⊥ = λ q. omega (arith, inside) in
+      let n : firstBad b′ ≡ blockCount → ⊥ = λ q. omega (arith, inside k b b′ one blockCount (a .0)) in
       rw (eq-eqb (length b′) imageBytes (one .size ∙ a .0), ne-eqb (firstBad b′) blockCount n)
 
 -- ---- the two calls as steps of a port

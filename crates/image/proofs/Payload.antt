@@ -6,9 +6,8 @@ use Prim.Native.Nat.{ℕ, zero, suc, _+_, _-_, _*_, _%_, _^_, _≤_, _<_}
 use native.Mathlib.Nat.{mul-pos}
 use native.Mathlib.Omega.{arith}
 use borrow.Author.Tests.{eq-eqb, ne-eqb, ltb-true}
-use lib.Dec.{T, eqb, eqb→eq, lit<}
-use lib.Pow.{pow-mono}
-use lib.IntN.{ℤ, pos, negsuc}
+use lib.Dec.{T, eqb, lit<}
+use lib.IntN.{ℤ, pos}
 use lib.ListN.{length, getD, replicate, length-replicate, getD-replicate}
 use lib.Ieee.{Float, nan, inf, fin, binary64, up, down, top, lt, eq, fits, ofBits, toBits}
 use lib.Ieee.Bits.{ofBits-fits}
@@ -30,25 +29,16 @@ use Rattle.chain.specs.Chain.{freshSettings}
 use Rattle.chain.specs.Valid.{Valid}
 use Rattle.strand_image.specs.Strand.{strand, front, state, filters, powers, decimated, floor, smoothed, window, minima, history, decision, counts, power}
 use Rattle.strand_image.specs.Words.{Finite64, Flag}
-use Rattle.strand_image.proofs.Again.{Iff, Reads, here-cons, here-none, reads-all, reads-pair, reads-also, kept-float}
+use Rattle.codec.proofs.Again.{Iff, Reads, here-cons, here-none, reads-all, reads-pair, reads-also, kept-float}
 use Rattle.strand_image.proofs.Words.{number, flagged, strand-words}
 use Rattle.image.specs.Layout.{edition, unusedWords, payloadWords}
 use Rattle.image.specs.Chain.{strandSettings, duck, signedOf, signedStrand, signedDuck, signedSettings, settingsRule, numbers, fresh-numbers, fresh-rule, settings, loops, chain}
 use Rattle.image.specs.Image.{wordsOf}
+use Rattle.chain.proofs.Zero.{zero-exponent}
 use Rattle.image.specs.Words.{SettingWord, PayloadWords}
 use Rattle.image.proofs.Valid.{or-false, false-or, not-true, both-true, unlike, chain-valid, valid-chain}
 
 -- ---- negative zero
-
--- a zero that binary64 holds has the exponent 0
-two-le : (k : ℕ) → 2 ≤ 2 ^ suc k
-two-le k = pow-mono {i = 1} {j = suc k} (omega arith)
-
-zero-exponent : (s : Bool) (e : ℤ) → T (fits binary64 (fin s zero e)) → e ≡ pos 0
-unfolding fits
-zero-exponent s (pos zero) h = refl
-zero-exponent s (pos (suc k)) h = absurd (omega (arith, eqb→eq (2 ^ suc k * 1) 1 h, two-le k))
-zero-exponent s (negsuc k) h = absurd (omega (arith, eqb→eq (1 * 2 ^ suc k) 1 h, two-le k))
 
 abbrev minus : ℕ
 minus = 0x8000000000000000

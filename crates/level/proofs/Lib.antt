@@ -1,3 +1,4 @@
+pub mod All
 pub mod Finite
 pub mod Sum
 pub mod Deque

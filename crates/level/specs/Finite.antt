@@ -1,9 +1,9 @@
 -- Whether all numbers of a list are finite.
-use mathlib.Core.Bool.{Bool, true, _&&_}
-use mathlib.Core.List.{List, [], _∷_}
+use mathlib.Core.Bool.{Bool}
+use mathlib.Core.List.{List}
 use lib.Ieee.{Float}
 use lib.Ieee.Scale.{finite}
+use Rattle.level.specs.All.{all}
 
 unfoldable pub allFinite : List Float → Bool
-allFinite [] = true
-allFinite (x ∷ xs) = finite x && allFinite xs
+allFinite xs = all finite xs

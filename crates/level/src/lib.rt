@@ -6,6 +6,7 @@ ghost use lib.Dec.{T};
 ghost use lib.ListN.{length, replicate};
 ghost use Rattle.biquad.specs.Tick.{tickOf};
 ghost use Rattle.level.specs.Finite.{allFinite};
+ghost use Rattle.level.specs.Same.{sameOf, allSame, sameState, holdsOf, restsOf};
 ghost use Rattle.level.specs.Weighing.{cleanOf, stepOf, shelfOutput, heldStep, heldRun, runOf};
 ghost use Rattle.level.specs.Level.{
   joinedOf,
@@ -113,7 +114,7 @@ pub fn all_finite(v: &[f64]) -> bool
 
 // Whether a and b are surely the same: the same bits, and no NaN.
 pub fn same(a: f64, b: f64) -> bool
-    ensures { λ r. ⌜ (T r → a ≡ b) ⌝ }
+    ensures { λ r. ⌜ (r ≡ sameOf a b) × (T r → a ≡ b) ⌝ }
 {
     if a != a {
         return false;
@@ -126,7 +127,7 @@ pub fn same(a: f64, b: f64) -> bool
 
 // Whether every value is surely x.
 pub fn all_same(x: f64, xs: &[f64]) -> bool
-    ensures { λ r. ⌜ (T r → now (xs .entry) ≡ replicate (length (now (xs .entry))) x) ⌝ }
+    ensures { λ r. ⌜ (r ≡ allSame x (now (xs .entry))) × (T r → now (xs .entry) ≡ replicate (length (now (xs .entry))) x) ⌝ }
 {
     let mut i = 0;
     while i < xs.len() {
@@ -141,14 +142,14 @@ pub fn all_same(x: f64, xs: &[f64]) -> bool
 
 // Whether two sections are surely in the same state.
 pub fn same_state(s: State, t: State) -> bool
-    ensures { λ r. ⌜ (T r → s ≡ t) ⌝ }
+    ensures { λ r. ⌜ (r ≡ sameState s t) × (T r → s ≡ t) ⌝ }
 {
     same(s.z1, t.z1) & same(s.z2, t.z2)
 }
 
 // Whether a sample x surely leaves a section's state as it is. In silence rounding holds its numbers at last.
 pub fn holds(s: State, c: Coefficients, x: f64) -> bool
-    ensures { λ r. ⌜ (T r → tickOf s c x .state ≡ s) ⌝ }
+    ensures { λ r. ⌜ (r ≡ holdsOf s c x) × (T r → tickOf s c x .state ≡ s) ⌝ }
 {
     let t = s.tick(c, x);
     let next = t.state;
@@ -213,7 +214,8 @@ impl Weighing {
 
     // Whether all samples are x and surely leave the shelf's state as it is.
     pub fn rests(self, x: f64, xs: &[f64]) -> bool
-        ensures { λ r. ⌜ (T r → heldRun (shelfOutput self x) self (now (xs .entry)) ≡ foldl stepOf self (now (xs .entry))) ⌝ }
+        ensures { λ r. ⌜ (r ≡ restsOf self x (now (xs .entry)))
+            × (T r → heldRun (shelfOutput self x) self (now (xs .entry)) ≡ foldl stepOf self (now (xs .entry))) ⌝ }
     {
         let shelf = self.shelf;
         if all_same(x, xs) {

@@ -1,5 +1,4 @@
 pub mod Runs
 pub mod Rules
 pub mod Valid
-pub mod Again
 pub mod Words

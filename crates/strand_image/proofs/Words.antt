@@ -16,7 +16,7 @@ use Rattle.codec.specs.Kept.{here-head, here-rest, zero-num, T-true, true-T, ca
 use Rattle.codec.specs.Forms.{f64, f32, below, flag, one, fixed, pair, counted, maybe}
 use Rattle.strand_image.specs.Strand.{state, filters, powers, decimated, minima, history, fromSmoothed, toSmoothed, from-to-smoothed, to-from-smoothed, smoothed, fromPower, toPower, from-to-power, to-from-power, power, windowRule, window-blank, zero-bits, window, floor, countsRule, counts, decision, front, strand}
 use Rattle.strand_image.specs.Words.{Finite64, Finite32, Flag, FilterWords, ListWords, OptionalWords, StrandWords}
-use Rattle.strand_image.proofs.Again.{Iff, Reads, here-cons, here-none, reads-one, reads-pair, reads-as-a, reads-also, reads-counted, reads-maybe, kept-float, kept-below, kept-flag}
+use Rattle.codec.proofs.Again.{Iff, Reads, here-cons, here-none, reads-one, reads-pair, reads-as-a, reads-also, reads-counted, reads-maybe, kept-float, kept-below, kept-flag}
 
 module _ (l : List ℕ) (s : Words l) where
   abbrev word : ℕ → ℕ

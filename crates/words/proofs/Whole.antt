@@ -1,6 +1,6 @@
 -- The three runs of words that an answer is laid in.
 use mathlib.Core.Path.{_≡_, refl, sym, subst, _∙_}
-use mathlib.Core.List.{List, _++_}
+use mathlib.Core.List.{List}
 use Prim.Native.Nat.{ℕ}
 use lib.ListN.{length}
 use Rattle.blocks.specs.Lists.{Laid}

@@ -1,24 +1,19 @@
 -- `band` meets its contract. The loop's invariant: for each strand the samples that are left, from the state that it has, come to the same, and so
 -- do the outputs stored with those that are left.
-use Prim.Native.Nat.{ℕ, _-_, _≤_}
+use Prim.Native.Nat.{_-_, _≤_}
 use native.Mathlib.Omega.{arith}
-use mathlib.Core.Path.{_≡_, refl, sym, _∙_}
-use mathlib.Core.List.{List, _++_, foldl}
+use mathlib.Core.Path.{_≡_, refl, _∙_}
+use mathlib.Core.List.{_++_, foldl}
 use lib.ListN.{length, take, drop, length-set}
-use lib.Seq.{take-all}
-use lib.Ieee.{Float, nan}
+use lib.Ieee.{nan}
 use borrow.Author.Needs.{needs}
 use Rattle.sequence.proofs.Fold.{fold-turn, fold-end}
-use Rattle.detector.specs.declared.Bands.{Bands}
 use Rattle.detector.specs.Filters.{stepOf, outputsOf}
-use Rattle.detector.proofs.Outputs.{outputs-turn, outputs-end}
+use Rattle.detector.proofs.Outputs.{outputs-turn}
 use Rattle.chain.specs.Strands.{bandedOf, bandedPairs}
+use Rattle.chain.proofs.Outputs.{all-stored}
 use Rattle.chain.proofs.band.Statement.{statement}
 use Rattle.chain.proofs.band.Tie as tie
-
--- past the last sample the outputs are what is stored
-all-stored : (s : Bands) (xs out ys : List Float) (i : ℕ) → length xs ≤ i → length out ≤ i → take i out ++ outputsOf s (drop i xs) ≡ ys → out ≡ ys
-all-stored s xs out ys i h g e = sym (take-all i out g) ∙ sym (outputs-end s xs out i h) ∙ e
 
 abbrev Inv-loop : tie.InvT-loop
 Inv-loop xs ys out₀ also₀ k₀ b₀ i₀ out also k b i =

@@ -43,7 +43,7 @@ returns c =
     let v = c .before .before .before .before .shelf-output in
     let d = c .before .before .before .before .before in
     let a = d .before .before .before .before .before .args in
-    let p = beside-run (s .result) (v .result) (a .key) (a .bed) (a .xs .now) (a .ys .now) (getD (a .xs .now) 0 nan) (s .ensures) (v .ensures) (d .before .rests .ensures (subst T (sym (d .if1 .taken)) tt)) in
+    let p = beside-run (s .result) (v .result) (a .key) (a .bed) (a .xs .now) (a .ys .now) (getD (a .xs .now) 0 nan) (s .ensures) (v .ensures) (d .before .rests .ensures .1 (subst T (sym (d .if1 .taken)) tt)) in
     c .pairs .ensures ∙ (λ i. weighedPairs (record { key = p .0 i; bed = p .1 i }))
 
 rests-requires-2 : tie.Need-rests-requires-2
@@ -65,7 +65,7 @@ returns-2 c =
     let v = c .before .before .before .before .shelf-output2 in
     let d = c .before .before .before .before .before in
     let a = d .before .before .before .before .before .before .before .before .args in
-    let p = beside-run (s .result) (v .result) (a .bed) (a .key) (a .ys .now) (a .xs .now) (getD (a .ys .now) 0 nan) (s .ensures) (v .ensures) (d .before .rests2 .ensures (subst T (sym (d .if2 .taken)) tt)) in
+    let p = beside-run (s .result) (v .result) (a .bed) (a .key) (a .ys .now) (a .xs .now) (getD (a .ys .now) 0 nan) (s .ensures) (v .ensures) (d .before .rests2 .ensures .1 (subst T (sym (d .if2 .taken)) tt)) in
     c .pairs2 .ensures ∙ (λ i. weighedPairs (record { key = p .1 i; bed = p .0 i }))
 
 weigh-requires : tie.Need-weigh-requires

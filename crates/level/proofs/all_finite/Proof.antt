@@ -3,9 +3,11 @@ use Prim.Native.Nat.{_-_, _≤_}
 use native.Mathlib.Omega.{arith}
 use mathlib.Core.Path.{_≡_, _∙_}
 use lib.ListN.{length, drop}
+use lib.Ieee.{nan}
+use lib.Ieee.Scale.{finite}
 use borrow.Author.Needs.{needs}
 use Rattle.level.specs.Finite.{allFinite}
-use Rattle.level.proofs.Finite.{all-turn, all-stop, all-end}
+use Rattle.level.proofs.All.{all-turn, all-stop, all-end}
 use Rattle.level.proofs.all_finite.Statement.{statement}
 use Rattle.level.proofs.all_finite.Tie as tie
 
@@ -34,19 +36,22 @@ loop-less : tie.Need-loop-less Inv-loop μ-loop
 loop-less c = search needs
 
 loop-again : tie.Need-loop-again Inv-loop μ-loop
+unfolding allFinite
 loop-again c =
     let l = c .before .before .before .before .loop in
     let v = c .before .before .before .before .before .before .args .v .now in
-    (omega arith, all-turn v (l .i) (c .before .finite .result) (c .before .finite .ensures) (c .if1 .taken) (omega arith) ∙ l .inv .1)
+    (omega arith, all-turn finite nan v (l .i) (c .before .finite .result) (c .before .finite .ensures) (c .if1 .taken) (omega arith) ∙ l .inv .1)
 
 returns : tie.Need-returns Inv-loop μ-loop
+unfolding allFinite
 returns c =
     let l = c .before .before .before .before .loop in
     let v = c .before .before .before .before .before .before .args .v .now in
-    all-stop v (l .i) (c .before .finite .result) (c .before .finite .ensures) (c .if1 .left) (omega arith) ∙ l .inv .1
+    all-stop finite nan v (l .i) (c .before .finite .result) (c .before .finite .ensures) (c .if1 .left) (omega arith) ∙ l .inv .1
 
 returns-2 : tie.Need-returns-2 Inv-loop μ-loop
-returns-2 c = all-end (c .before .before .before .args .v .now) (c .before .loop .i) (omega arith) ∙ c .before .loop .inv .1
+unfolding allFinite
+returns-2 c = all-end finite (c .before .before .before .args .v .now) (c .before .loop .i) (omega arith) ∙ c .before .loop .inv .1
 
 pub all-finite-spec : {M : Type 1} → statement M
 all-finite-spec =

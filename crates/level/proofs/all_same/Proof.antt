@@ -1,22 +1,26 @@
--- `level::all_same` meets its contract. The loop's invariant: where all that are left are x, all are.
+-- `level::all_same` meets its contract. The loop's invariant: the answer for what is left is the answer for all, and where all that are left are x,
+-- all are.
 use Prim.Native.Nat.{_-_, _≤_}
 use native.Mathlib.Omega.{arith}
-use mathlib.Core.Path.{sym, subst}
+use mathlib.Core.Path.{_≡_, refl, sym, subst, _∙_}
 use lib.Dec.{T}
 use lib.ListN.{length, drop}
+use lib.Ieee.{Float, nan}
 use borrow.Author.Needs.{needs}
+use Rattle.level.specs.Same.{sameOf, allSame}
+use Rattle.level.proofs.All.{all-turn, all-stop, all-end}
 use Rattle.level.proofs.Silence.{Same, same-turn, same-end}
 use Rattle.level.proofs.all_same.Statement.{statement}
 use Rattle.level.proofs.all_same.Tie as tie
 
 abbrev Inv-loop : tie.InvT-loop
-Inv-loop x xs i₀ i = (i ≤ length xs) × (Same x (drop i xs) → Same x xs)
+Inv-loop x xs i₀ i = (i ≤ length xs) × (allSame x (drop i xs) ≡ allSame x xs) × (Same x (drop i xs) → Same x xs)
 
 abbrev μ-loop : tie.MeasureT-loop
 μ-loop x xs i₀ i = length xs - i
 
 loop-holds : tie.Need-loop-holds Inv-loop μ-loop
-loop-holds c = (omega arith, λ s. s)
+loop-holds c = (omega arith, refl, λ s. s)
 
 mul-same : tie.Need-mul-same Inv-loop μ-loop
 mul-same c = search needs
@@ -34,18 +38,34 @@ loop-less : tie.Need-loop-less Inv-loop μ-loop
 loop-less c = search needs
 
 loop-again : tie.Need-loop-again Inv-loop μ-loop
+unfolding allSame
 loop-again c =
     let l = c .before .before .before .before .loop in
     let a = c .before .before .before .before .before .before .args in
-    (omega arith, λ s. l .inv .1 (same-turn (a .x) (a .xs .now) (l .i) (omega arith) (c .before .same .ensures (subst T (sym (c .if1 .taken)) tt)) s))
+    let s = c .before .same in (
+      omega arith,
+      all-turn (λ (y : Float). sameOf y (a .x)) nan (a .xs .now) (l .i) (s .result) (s .ensures .0) (c .if1 .taken) (omega arith) ∙ l .inv .1,
+      λ u. l .inv .2 (same-turn (a .x) (a .xs .now) (l .i) (omega arith) (s .ensures .1 (subst T (sym (c .if1 .taken)) tt)) u),
+    )
 
 returns : tie.Need-returns Inv-loop μ-loop
-returns c = λ t. absurd t
+unfolding allSame
+returns c =
+    let l = c .before .before .before .before .loop in
+    let a = c .before .before .before .before .before .before .args in
+    let s = c .before .same in (
+      all-stop (λ (y : Float). sameOf y (a .x)) nan (a .xs .now) (l .i) (s .result) (s .ensures .0) (c .if1 .left) (omega arith) ∙ l .inv .1,
+      λ t. absurd t,
+    )
 
 returns-2 : tie.Need-returns-2 Inv-loop μ-loop
+unfolding allSame
 returns-2 c =
-    let a = c .before .before .before .args in
-    λ t. c .before .loop .inv .1 (same-end (a .x) (a .xs .now) (c .before .loop .i) (omega arith))
+    let l = c .before .loop in
+    let a = c .before .before .before .args in (
+      all-end (λ (y : Float). sameOf y (a .x)) (a .xs .now) (l .i) (omega arith) ∙ l .inv .1,
+      λ t. l .inv .2 (same-end (a .x) (a .xs .now) (l .i) (omega arith)),
+    )
 
 pub all-same-spec : {M : Type 1} → statement M
 all-same-spec =

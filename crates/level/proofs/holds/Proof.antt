@@ -1,7 +1,9 @@
 -- `level::holds` meets its contract.
 use mathlib.Core.Path.{sym, _∙_, ap}
 use borrow.Author.Needs.{needs}
+use Rattle.biquad.specs.declared.State.{State}
 use Rattle.biquad.specs.declared.Ticked.{Ticked}
+use Rattle.level.specs.Same.{sameState, holdsOf}
 use Rattle.level.proofs.holds.Statement.{statement}
 use Rattle.level.proofs.holds.Tie as tie
 
@@ -12,7 +14,11 @@ same-state-requires : tie.Need-same-state-requires
 same-state-requires c κs = search needs
 
 returns : tie.Need-returns
-returns c = λ t. ap (λ (u : Ticked). u .state) (sym (c .before .before .tick .ensures)) ∙ c .same-state .ensures t
+unfolding holdsOf
+returns c =
+    let e = ap (λ (u : Ticked). u .state) (c .before .before .tick .ensures) in
+    let s = c .same-state .ensures in
+    (s .0 ∙ ap (λ (u : State). sameState u (c .before .before .before .args .s)) e, λ t. sym e ∙ s .1 t)
 
 pub holds-spec : {M : Type 1} → statement M
 holds-spec = tie.close (tie.spec tick-requires same-state-requires returns)

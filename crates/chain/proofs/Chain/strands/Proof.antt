@@ -1,6 +1,6 @@
 -- `Chain::strands` meets its contract: the filters of both, then what follows for each.
 use borrow.Author.Needs.{needs}
-use Rattle.chain.specs.Strands.{strandsOf, weighedOf, bandedOf}
+use Rattle.chain.specs.Strands.{strandsOf, weighedOf, bandedOf, filteredOf}
 use Rattle.chain.proofs.Chain.strands.Statement.{statement}
 use Rattle.chain.proofs.Chain.strands.Tie as tie
 
@@ -10,8 +10,11 @@ start-requires c κs = search needs
 start-requires-2 : tie.Need-start-requires-2
 start-requires-2 c κs = search needs
 
-weigh-frame-requires : tie.Need-weigh-frame-requires
-weigh-frame-requires c κs = search needs
+begin-requires : tie.Need-begin-requires
+begin-requires c κs = search needs
+
+begin-requires-2 : tie.Need-begin-requires-2
+begin-requires-2 c κs = search needs
 
 no-outputs-requires : tie.Need-no-outputs-requires
 no-outputs-requires c κs = search needs
@@ -19,16 +22,10 @@ no-outputs-requires c κs = search needs
 no-outputs-requires-2 : tie.Need-no-outputs-requires-2
 no-outputs-requires-2 c κs = search needs
 
-begin-requires : tie.Need-begin-requires
-begin-requires c κs = search needs
-
-begin-requires-2 : tie.Need-begin-requires-2
-begin-requires-2 c κs = search needs
-
-band-frame-requires : tie.Need-band-frame-requires
-band-frame-requires c κs =
-    let w = c .before .before .before .before .before .before .before .before .before .before .before .before .before .before .before .before .before .before .before .before .pre in
-    (w .0, w .1, c .before .before .before .before .before .no-outputs .ensures, c .before .before .before .before .no-outputs2 .ensures)
+filter-frame-requires : tie.Need-filter-frame-requires
+filter-frame-requires c κs =
+    let w = c .before .before .before .before .before .before .before .before .before .before .before .before .before .before .before .before .before .before .before .pre in
+    (w .0, w .1, c .before .before .before .no-outputs .ensures, c .before .before .no-outputs2 .ensures)
 
 finished-requires : tie.Need-finished-requires
 finished-requires c κs = search needs
@@ -37,20 +34,19 @@ finished-requires-2 : tie.Need-finished-requires-2
 finished-requires-2 c κs = search needs
 
 returns : tie.Need-returns
-unfolding strandsOf weighedOf bandedOf
+unfolding strandsOf filteredOf weighedOf bandedOf
 returns c =
     simp (
       c .finished2 .ensures,
       c .before .before .finished .ensures,
-      c .before .before .before .before .band-frame .ensures .0,
-      c .before .before .before .before .band-frame .ensures .1,
-      c .before .before .before .before .band-frame .ensures .2,
-      c .before .before .before .before .before .before .before .before .before .before .before .weigh-frame .ensures,
-      c .before .before .before .before .before .before .before .begin2 .ensures,
-      c .before .before .before .before .before .before .before .before .begin .ensures,
-      c .before .before .before .before .before .before .before .before .before .before .before .before .start2 .ensures,
-      c .before .before .before .before .before .before .before .before .before .before .before .before .before .start .ensures,
+      c .before .before .before .before .before .before .filter-frame .ensures .0,
+      c .before .before .before .before .before .before .filter-frame .ensures .1,
+      c .before .before .before .before .before .before .filter-frame .ensures .2,
+      c .before .before .before .before .before .before .before .before .before .before .before .begin2 .ensures,
+      c .before .before .before .before .before .before .before .before .before .before .before .before .begin .ensures,
+      c .before .before .before .before .before .before .before .before .before .before .before .before .before .start2 .ensures,
+      c .before .before .before .before .before .before .before .before .before .before .before .before .before .before .start .ensures,
     )
 
 pub strands-spec : {M : Type 1} → statement M
-strands-spec = tie.close (tie.spec start-requires start-requires-2 weigh-frame-requires no-outputs-requires no-outputs-requires-2 begin-requires begin-requires-2 band-frame-requires finished-requires finished-requires-2 returns)
+strands-spec = tie.close (tie.spec start-requires start-requires-2 begin-requires begin-requires-2 no-outputs-requires no-outputs-requires-2 filter-frame-requires finished-requires finished-requires-2 returns)

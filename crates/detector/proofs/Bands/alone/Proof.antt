@@ -39,7 +39,7 @@ returns c =
     let d = c .before .before in
     let a = d .before .before .before .before .before .args in
     let p = d .before .before .before .before .before .pre in
-    let q = d .before .before .quiet .ensures (subst T (sym (d .before .if1 .taken)) tt) in
+    let q = d .before .before .quiet .ensures .1 (subst T (sym (d .before .if1 .taken)) tt) in
     let e : length (a .out .now) ≡ length (a .xs .now) = omega (arith, p .0, p .1) in
     (d .step .ensures ∙ sym (q .runs (omega (arith, p .0))), c .fill .ensures ∙ (λ i. replicate (e i) (d .step .ensures i .pitch)) ∙ sym (q .outputs))
 
