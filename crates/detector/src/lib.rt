@@ -814,19 +814,17 @@ fn decimate(ys: &[f64]) -> [f32; 60]
     v
 }
 
-// Whether every number of v is finite.
+// Whether every number of v is finite. It has no early end, so that the processor tests four at once.
 pub fn all_finite32(v: &[f32]) -> bool
     ensures { λ r. ⌜ r ≡ allFinite (now (v .entry)) ⌝ }
 {
+    let mut finite = true;
     let mut i = 0;
     while i < v.len() {
-        if float::finite32(v[i]) {
-            i += 1;
-        } else {
-            return false;
-        }
+        finite = finite & float::finite32(v[i]);
+        i += 1;
     }
-    true
+    finite
 }
 
 impl Features {
