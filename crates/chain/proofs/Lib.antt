@@ -10,4 +10,3 @@ pub mod Promise
 pub mod Silence
 pub mod Witness
 pub mod Dead
-pub mod Outputs

@@ -1,6 +1,7 @@
 -- `Chain::strands` meets its contract: the filters of both, then what follows for each.
 use borrow.Author.Needs.{needs}
-use Rattle.chain.specs.Strands.{strandsOf, weighedOf, bandedOf, filteredOf}
+use Rattle.strands.specs.Strands.{weighedOf, bandedOf, filteredOf}
+use Rattle.chain.specs.Strands.{strandsOf}
 use Rattle.chain.proofs.Chain.strands.Statement.{statement}
 use Rattle.chain.proofs.Chain.strands.Tie as tie
 
