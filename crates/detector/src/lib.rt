@@ -164,7 +164,8 @@ impl Bands {
         false
     }
 
-    // The samples of a frame, and the pitch pair's output for each in out. In silence the first step is all there is to do.
+    // The samples of a frame, and the pitch pair's output for each in out. In silence the first step is all there is to do. `strands` shows both
+    // lengths.
     pub fn alone(self, xs: &[f64; 480], out: &mut [f64; 480]) -> Bands
         requires { ⌜ (length (now xs) ≡ 480) × (length (now out) ≡ 480) ⌝ }
         ensures { λ r. ⌜ (r ≡ runOf self (now (xs .entry))) × (now (out .exit) ≡ outputsOf self (now (xs .entry))) ⌝ }
