@@ -74,7 +74,7 @@ stillOf s v = sameBands (stepOf s v) s
 unfoldable pub quietOf : Bands → Float → List Float → Bool
 quietOf s v xs = allSame v xs && stillOf (stepOf s v) v
 
--- samples xs that change nothing after the first, which is v, and so does the output
+-- what follows: one step is the run over xs, and its output is the output for each of them
 pub record Quiet (s : Bands) (v : Float) (xs : List Float) : Type 0 where
   pub runs : 0 < length xs → runOf s xs ≡ stepOf s v
   pub outputs : outputsOf s xs ≡ replicate (length xs) (stepOf s v .pitch)

@@ -140,7 +140,7 @@ impl Bands {
         }
     }
 
-    // Whether a sample v surely leaves all as it is.
+    // Whether a sample v leaves all as it is.
     fn still(self, v: f64) -> bool
         ensures { λ r. ⌜ (r ≡ stillOf self v) × (T r → stepOf self v ≡ self) ⌝ }
     {
@@ -153,7 +153,7 @@ impl Bands {
             & level::same(n.pitch, self.pitch)
     }
 
-    // Whether all samples are v and surely change nothing after the first.
+    // Whether all samples are v and change nothing after the first.
     pub fn quiet(self, v: f64, xs: &[f64]) -> bool
         ensures { λ r. ⌜ (r ≡ quietOf self v (now (xs .entry))) × (T r → Quiet self v (now (xs .entry))) ⌝ }
     {
@@ -164,10 +164,8 @@ impl Bands {
         false
     }
 
-    // The samples of a frame, and the pitch pair's output for each in out. In silence the first step is all there is to do. `strands` shows both
-    // lengths.
+    // The samples of a frame, and the pitch pair's output for each in out. In silence the first step is all there is to do.
     pub fn alone(self, xs: &[f64; 480], out: &mut [f64; 480]) -> Bands
-        requires { ⌜ (length (now xs) ≡ 480) × (length (now out) ≡ 480) ⌝ }
         ensures { λ r. ⌜ (r ≡ runOf self (now (xs .entry))) × (now (out .exit) ≡ outputsOf self (now (xs .entry))) ⌝ }
     {
         let v = xs[0];

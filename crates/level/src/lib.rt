@@ -112,7 +112,7 @@ pub fn all_finite(v: &[f64]) -> bool
     true
 }
 
-// Whether a and b are surely the same: the same bits, and no NaN.
+// Whether a and b have the same bits and are no NaN. Then they are the same.
 pub fn same(a: f64, b: f64) -> bool
     ensures { λ r. ⌜ (r ≡ sameOf a b) × (T r → a ≡ b) ⌝ }
 {
@@ -125,7 +125,7 @@ pub fn same(a: f64, b: f64) -> bool
     f64::to_bits(a) == f64::to_bits(b)
 }
 
-// Whether every value is surely x.
+// Whether every value is the same as x.
 pub fn all_same(x: f64, xs: &[f64]) -> bool
     ensures { λ r. ⌜ (r ≡ allSame x (now (xs .entry))) × (T r → now (xs .entry) ≡ replicate (length (now (xs .entry))) x) ⌝ }
 {
@@ -140,14 +140,14 @@ pub fn all_same(x: f64, xs: &[f64]) -> bool
     true
 }
 
-// Whether two sections are surely in the same state.
+// Whether two sections are in the same state.
 pub fn same_state(s: State, t: State) -> bool
     ensures { λ r. ⌜ (r ≡ sameState s t) × (T r → s ≡ t) ⌝ }
 {
     same(s.z1, t.z1) & same(s.z2, t.z2)
 }
 
-// Whether a sample x surely leaves a section's state as it is. In silence rounding holds its numbers at last.
+// Whether a sample x leaves a section's state as it is. In silence rounding holds its numbers at last.
 pub fn holds(s: State, c: Coefficients, x: f64) -> bool
     ensures { λ r. ⌜ (r ≡ holdsOf s c x) × (T r → tickOf s c x .state ≡ s) ⌝ }
 {
@@ -212,7 +212,7 @@ impl Weighing {
         a.y
     }
 
-    // Whether all samples are x and surely leave the shelf's state as it is.
+    // Whether all samples are x and leave the shelf's state as it is. Then the shelf need not be run.
     pub fn rests(self, x: f64, xs: &[f64]) -> bool
         ensures { λ r. ⌜ (r ≡ restsOf self x (now (xs .entry)))
             × (T r → heldRun (shelfOutput self x) self (now (xs .entry)) ≡ foldl stepOf self (now (xs .entry))) ⌝ }

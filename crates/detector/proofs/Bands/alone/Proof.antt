@@ -38,10 +38,11 @@ returns : tie.Need-returns
 returns c =
     let d = c .before .before in
     let a = d .before .before .before .before .before .args in
-    let p = d .before .before .before .before .before .pre in
+    let n : length (a .xs .now) ≡ 480 = d .before .before .before .quiet-arg .given .0 in
+    let m : length (a .out .now) ≡ 480 = c .before .fill-arg .given .0 .1 in
     let q = d .before .before .quiet .ensures .1 (subst T (sym (d .before .if1 .taken)) tt) in
-    let e : length (a .out .now) ≡ length (a .xs .now) = omega (arith, p .0, p .1) in
-    (d .step .ensures ∙ sym (q .runs (omega (arith, p .0))), c .fill .ensures ∙ (λ i. replicate (e i) (d .step .ensures i .pitch)) ∙ sym (q .outputs))
+    let e : length (a .out .now) ≡ length (a .xs .now) = omega (arith, n, m) in
+    (d .step .ensures ∙ sym (q .runs (omega (arith, n))), c .fill .ensures ∙ (λ i. replicate (e i) (d .step .ensures i .pitch)) ∙ sym (q .outputs))
 
 run-requires : tie.Need-run-requires
 run-requires c κs = search needs
@@ -49,9 +50,10 @@ run-requires c κs = search needs
 returns-2 : tie.Need-returns-2
 returns-2 c =
     let a = c .before .before .before .before .before .before .before .args in
-    let p = c .before .before .before .before .before .before .before .pre in
-    let t = take-all (length (a .out .now)) (a .xs .now) (omega (arith, p .0, p .1)) in
-    (c .run .ensures .0 ∙ ap (runOf (a .self)) t, c .run .ensures .1 ∙ all-laid (a .self) (a .xs .now) (a .out .now) (p .0) (p .1))
+    let n : length (a .xs .now) ≡ 480 = c .before .before .before .before .before .quiet-arg .given .0 in
+    let m : length (a .out .now) ≡ 480 = c .before .run-arg2 .given .0 .1 in
+    let t = take-all (length (a .out .now)) (a .xs .now) (omega (arith, n, m)) in
+    (c .run .ensures .0 ∙ ap (runOf (a .self)) t, c .run .ensures .1 ∙ all-laid (a .self) (a .xs .now) (a .out .now) n m)
 
 pub alone-spec : {M : Type 1} → statement M
 alone-spec = tie.close (tie.spec element-copy-out-v quiet-requires step-requires fill-requires returns run-requires returns-2)
