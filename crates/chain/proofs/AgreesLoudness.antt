@@ -5,12 +5,12 @@ use mathlib.Core.Bool.{Bool, true, false, cond}
 use mathlib.Core.List.{List, [], _∷_, _++_, map, foldl, append-nil, append-assoc}
 use lib.Dec.{T, eqb}
 use lib.ListN.{length}
-use lib.Ieee.{Float}
+use lib.Ieee.{Float, lt, neg, ofBits}
 use Rattle.demands.specs.Calls.{Log, empty, _▹_}
 use Rattle.demands.specs.Laws.{Agrees}
 use Rattle.level.specs.declared.Level.{Level}
 use Rattle.level.specs.declared.Reading.{Reading}
-use Rattle.level.specs.Bs1770.{frameLength, momentary}
+use Rattle.level.specs.Bs1770.{frameLength, floorLufs, shortTerm}
 use Rattle.level.specs.Finite.{allFinite}
 use Rattle.level.specs.Weighing.{cleanOf}
 use Rattle.level.specs.Level as level
@@ -20,12 +20,21 @@ use Rattle.vad.specs.declared.VadSettings.{VadSettings}
 use Rattle.vad.specs.declared.Strand.{Strand}
 use Rattle.vad.specs.State.{tenthsOf, stateOf}
 use Rattle.vad.specs.Strand as strand
+use Rattle.float.specs.declared.Lufs.{Lufs}
+use Rattle.comis.specs.declared.Shown.the-variants as is
+use Rattle.comis.specs.declared.loop_bank.Loops.{Loops}
+use Rattle.comis.specs.Engine.{silence}
+use Rattle.ratio.specs.declared.Duck.{Duck}
+use Rattle.ratio.specs.declared.Inputs.{Inputs}
+use Rattle.ratio.specs.Status as ratio
+use Rattle.ratio.specs.Frame as frames
 use Rattle.chain.specs.declared.Chain.{Chain}
-use Rattle.chain.specs.Chain.{freshOf, workOf, withKey, withBed}
+use Rattle.chain.specs.Settings.{storedOf, storedDuck}
+use Rattle.chain.specs.Chain.{freshOf, inputsOf, workOf, answerOf, withKey, withBed}
 use Rattle.chain.specs.Valid.{Valid}
-use Rattle.chain.specs.Rules.{Event, frame, settings, reset, refuses, next, answers, rules}
-use Rattle.chain.specs.Loudness.{keyHeard, bedHeard, loudnessOf, shownOf, loud, says, part, loudness}
-use Rattle.chain.proofs.Accepted.{accepted}
+use Rattle.chain.specs.Rules.{Event, frame, settings, reset, shown, refuses, next, answers, rules}
+use Rattle.chain.specs.Loudness.{keyHeard, bedHeard, enabledIn, loudnessOf, shownOf, readingOf, loud, says, part, loudness, Given, given, givenOf}
+use Rattle.chain.proofs.Accepted.{Accepted, accepted}
 
 -- ---- lists of frames, with one frame more
 
@@ -81,45 +90,113 @@ module _ (t : Strand) (xs f : List Float) (s : VadSettings) (h : Heard (t .level
   unfolding strand.frameOf strand.finishOf stateOf
   shows = ap (λ (r : Reading). record { momentary = tenthsOf (r .momentary .0); short-term = tenthsOf (r .«short_term» .0) }) reads
 
+-- ---- what the ducker shows of it
+
+silence-floor : silence ≡ floorLufs
+unfolding neg ofBits
+silence-floor = refl
+
+-- -100 and below is silence, and all else is to a tenth
+reading-shown : (l : Lufs) → ratio.readingOf l ≡ cond (lt floorLufs (l .0)) (is.Level (tenthsOf (l .0))) is.Silence
+unfolding ratio.readingOf tenthsOf
+reading-shown l = ap (λ (x : Float). cond (lt x (l .0)) (is.Level (ratio.tenths (l .0))) is.Silence) silence-floor
+
+module _ (l : Loops) (d : Duck) (i : Inputs) where
+  dialogue-shown : frames.frameOf l d i .status .«dialogue_lufs» ≡ cond (d .enabled) (ratio.readingOf (i .«dialogue_short_term»)) is.Silence
+  unfolding frames.frameOf frames.enabledFrame frames.disabledFrame ratio.statusOf
+  dialogue-shown = go (d .enabled)
+    where
+      go : (b : Bool) → cond b (frames.enabledFrame l d i) (frames.disabledFrame d) .status .«dialogue_lufs» ≡ cond b (ratio.readingOf (i .«dialogue_short_term»)) is.Silence
+      go true = refl
+      go false = refl
+
+  bed-shown : frames.frameOf l d i .status .«bed_lufs» ≡ cond (d .enabled) (ratio.readingOf (i .«bed_short_term»)) is.Silence
+  unfolding frames.frameOf frames.enabledFrame frames.disabledFrame ratio.statusOf
+  bed-shown = go (d .enabled)
+    where
+      go : (b : Bool) → cond b (frames.enabledFrame l d i) (frames.disabledFrame d) .status .«bed_lufs» ≡ cond b (ratio.readingOf (i .«bed_short_term»)) is.Silence
+      go true = refl
+      go false = refl
+
 -- ---- the two strands
 
 pub record Like (c : Chain) (h : Log Event) : Type 0 where
   pub key : Heard (c .key .level) (keyHeard h)
   pub bed : Heard (c .bed .level) (bedHeard h)
+  pub enabled : c .settings .duck .enabled ≡ enabledIn h
 
-like-new : Like freshOf empty
-like-new = record { key = nothing-heard; bed = nothing-heard }
+pub like-new : Like freshOf empty
+like-new = record { key = nothing-heard; bed = nothing-heard; enabled = refl }
+
+-- a strand begun anew: the key, or the bed
+abbrev anew : Chain → Bool → Chain
+anew c b = cond b (withKey c (strand.resetOf (c .key))) (withBed c (strand.resetOf (c .bed)))
 
 reset-like : (c : Chain) (h : Log Event) (n : ℕ) → Like c h → Like (next c (reset n)) (h ▹ reset n)
 unfolding strand.resetOf
-reset-like c h n l = record { key = key (eqb n 0); bed = bed (eqb n 0) }
+reset-like c h n l = record { key = key (eqb n 0); bed = bed (eqb n 0); enabled = enabled (eqb n 0) }
   where
-    key : (b : Bool) → Heard (cond b (withKey c (strand.resetOf (c .key))) (withBed c (strand.resetOf (c .bed))) .key .level) (cond b [] (keyHeard h))
+    key : (b : Bool) → Heard (anew c b .key .level) (cond b [] (keyHeard h))
     key true = nothing-heard
     key false = l .key
 
-    bed : (b : Bool) → Heard (cond b (withKey c (strand.resetOf (c .key))) (withBed c (strand.resetOf (c .bed))) .bed .level) (cond b (bedHeard h) [])
+    bed : (b : Bool) → Heard (anew c b .bed .level) (cond b (bedHeard h) [])
     bed true = l .bed
     bed false = nothing-heard
 
-like-next : (c : Chain) (h : Log Event) (e : Event) → Valid c → Like c h → refuses c e ≡ 0 → Like (next c e) (h ▹ e)
-unfolding workOf
+    enabled : (b : Bool) → anew c b .settings .duck .enabled ≡ enabledIn h
+    enabled true = l .enabled
+    enabled false = l .enabled
+
+pub like-next : (c : Chain) (h : Log Event) (e : Event) → Valid c → Like c h → refuses c e ≡ 0 → Like (next c e) (h ▹ e)
+unfolding workOf storedOf storedDuck
 like-next c h (frame key bed) v l z =
     let a = accepted c key bed z in
     record {
       key = more-heard (c .key) (keyHeard h) key (c .settings .key) (l .key) (a .whole .key-length) (a .whole .key-samples);
       bed = more-heard (c .bed) (bedHeard h) bed (c .settings .bed) (l .bed) (a .whole .bed-length) (a .whole .bed-samples);
+      enabled = l .enabled;
     }
-like-next c h (settings a) v l z = record { key = l .key; bed = l .bed }
+like-next c h (settings a) v l z = record { key = l .key; bed = l .bed; enabled = refl }
 like-next c h (reset n) v l z = reset-like c h n l
 
+-- ---- a frame
+
+module _ (c : Chain) (h : Log Event) (l : Like c h) (key bed : List Float) (a : Accepted c key bed) where
+  pub key-reads : workOf c key bed .key .reading ≡ bs1770 (keyHeard h ++ key)
+  unfolding workOf strand.frameOf strand.finishOf
+  key-reads = reads (c .key) (keyHeard h) key (c .settings .key) (l .key) (a .whole .key-length) (a .whole .key-samples)
+
+  pub bed-reads : workOf c key bed .bed .reading ≡ bs1770 (bedHeard h ++ bed)
+  unfolding workOf strand.frameOf strand.finishOf
+  bed-reads = reads (c .bed) (bedHeard h) bed (c .settings .bed) (l .bed) (a .whole .bed-length) (a .whole .bed-samples)
+
+  pub ducker-given : givenOf (inputsOf (workOf c key bed .key) (workOf c key bed .bed)) ≡ given (keyHeard h ++ key) (bedHeard h ++ bed)
+  unfolding inputsOf
+  ducker-given = λ i. record {
+    dialogue-short-term = key-reads i .«short_term» .0;
+    bed-short-term = bed-reads i .«short_term» .0;
+    bed-momentary = bed-reads i .momentary .0;
+    bed-fast = bed-reads i .fast .0;
+  }
+
+  -- a loudness that the ducker is given, as it shows it
+  shown-by : (l′ : Lufs) (xs : List Float) → l′ .0 ≡ shortTerm xs → cond (c .settings .duck .enabled) (ratio.readingOf l′) is.Silence ≡ readingOf (enabledIn h) xs
+  shown-by l′ xs e =
+      (λ i. cond (l .enabled i) (reading-shown l′ i) is.Silence) ∙ ap (λ (x : Float). cond (enabledIn h) (cond (lt floorLufs x) (is.Level (tenthsOf x)) is.Silence) is.Silence) e
+
+  frame-says : part (shown (answerOf (workOf c key bed))) ≡ says h (frame key bed)
+  unfolding workOf inputsOf
+  frame-says =
+      let k = shows (c .key) (keyHeard h) key (c .settings .key) (l .key) (a .whole .key-length) (a .whole .key-samples) in
+      let b = shows (c .bed) (bedHeard h) bed (c .settings .bed) (l .bed) (a .whole .bed-length) (a .whole .bed-samples) in
+      let i = inputsOf (workOf c key bed .key) (workOf c key bed .bed) in
+      let d = dialogue-shown (c .loops) (c .settings .duck) i ∙ shown-by (i .«dialogue_short_term») (keyHeard h ++ key) (ap (λ (g : Given). g .dialogue-short-term) ducker-given) in
+      let e = bed-shown (c .loops) (c .settings .duck) i ∙ shown-by (i .«bed_short_term») (bedHeard h ++ bed) (ap (λ (g : Given). g .bed-short-term) ducker-given) in
+      λ j. loud (k j) (b j) (d j) (e j)
+
 like-says : (c : Chain) (h : Log Event) (e : Event) → Valid c → Like c h → refuses c e ≡ 0 → part (answers c e) ≡ says h e
-unfolding workOf
-like-says c h (frame key bed) v l z =
-    let a = accepted c key bed z in
-    let k = shows (c .key) (keyHeard h) key (c .settings .key) (l .key) (a .whole .key-length) (a .whole .key-samples) in
-    let b = shows (c .bed) (bedHeard h) bed (c .settings .bed) (l .bed) (a .whole .bed-length) (a .whole .bed-samples) in
-    λ i. loud (k i) (b i)
+like-says c h (frame key bed) v l z = frame-says c h l key bed (accepted c key bed z)
 like-says c h (settings a) v l z = refl
 like-says c h (reset n) v l z = refl
 

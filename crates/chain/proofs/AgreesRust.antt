@@ -189,5 +189,5 @@ like-says c m (frame key bed) v l z = ap shown (frame-says c m v l key bed (acce
 like-says c m (settings a) v l z = refl
 like-says c m (reset n) v l z = refl
 
-pub rust-agrees : Agrees rules Valid model.rust
+abbrev pub rust-agrees : Agrees rules Valid model.rust
 rust-agrees = record { Like = Like; like-new = like-new; like-next = like-next; like-says = like-says }

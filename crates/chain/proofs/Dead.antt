@@ -6,7 +6,7 @@ use lib.ListN.{length}
 use lib.Ieee.{Float, fits, lt, ofBits}
 use Rattle.demands.specs.Calls.{empty, _▹_}
 use Rattle.demands.specs.Demands.{History, stateOf, modelOf}
-use Rattle.demands.specs.Dead.{Lived, Passing, TwoAnswers, Moves}
+use Rattle.demands.specs.Dead.{Lived, now, earlier, Passing, TwoAnswers, Moves}
 use Rattle.demands.proofs.Dead as dead
 use Rattle.level.specs.Bs1770.{zero64, one64, frameLength}
 use Rattle.level.specs.Finite.{allFinite}
@@ -17,10 +17,11 @@ use Rattle.chain.specs.Chain.{freshOf, workOf, keptOf, withSettings, fin
 use Rattle.chain.specs.Valid.{Valid}
 use Rattle.chain.specs.Rules.{HeldStrand, HeldDuck, Asked, Event, frame, settings, frameNumber, settingsNumber, rules}
 use Rattle.chain.specs.Rust as model
-use Rattle.chain.specs.Dead.{reductionOf, keyOnsets, bedOnsets, IsFrame, NoDeadUnits}
+use Rattle.chain.specs.Dead.{reductionOf, keyOnsets, bedOnsets, isFrame, NoDeadUnits}
 use Rattle.chain.proofs.Witness.{silence, click, lateWork, work-late, fresh-rests, keySpeaks, clickChain, computed}
 use Rattle.chain.proofs.Valid.{fresh-valid, next-valid}
 use Rattle.chain.proofs.AgreesRust.{Like, like-new, like-next, like-says}
+use Rattle.chain.proofs.Units.{stuck-fixed, repeating-repeats}
 
 -- ---- a frame passes by its tests
 
@@ -113,8 +114,8 @@ click-says =
 
 -- ---- the witnesses
 
-passing : Passing rules IsFrame
-passing = record { event = silentFrame; sort = tt; passes = silent-passes }
+passing : Passing rules isFrame
+passing = record { event = silentFrame; of-sort = refl; passes = silent-passes }
 
 abbrev past : History rules
 past = empty ▹ silentFrame ▹ settings asked
@@ -123,27 +124,42 @@ lived : Lived rules (past ▹ clickFrame)
 unfolding stateOf
 lived = (((tt, silent-passes), settings-pass), click-passes)
 
-two-answers : TwoAnswers rules model.rust reductionOf
+two-answers : TwoAnswers rules isFrame model.rust reductionOf
 unfolding stateOf modelOf
 two-answers = record {
   h = empty;
   e = silentFrame;
   h′ = past;
   e′ = clickFrame;
+  of-sort = refl;
+  of-sort′ = refl;
   lived = (tt, silent-passes);
   lived′ = lived;
   apart = λ p. true≢false (sym click-says ∙ ap reduces (sym p) ∙ silent-says);
 }
 
-moves : Moves rules model.rust reductionOf
+moves : Moves rules isFrame model.rust reductionOf
 unfolding stateOf modelOf
-moves = record { h = past; e = clickFrame; lived = lived; apart = λ p. true≢false (sym click-says ∙ ap reduces p ∙ silent-says) }
+moves = record {
+  h = past;
+  e = clickFrame;
+  past = empty;
+  first = silentFrame;
+  of-sort = refl;
+  is-first = earlier (earlier (now tt refl));
+  lived = lived;
+  apart = λ p. true≢false (sym click-says ∙ ap reduces p ∙ silent-says);
+}
 
 pub no-dead-units : NoDeadUnits
-no-dead-units unit = record {
-  not-fixed = λ d. dead.not-fixed rules unit model.rust d reductionOf two-answers;
-  not-repeats = λ d. dead.not-repeats rules unit model.rust d reductionOf moves;
-  not-inventing = λ d. dead.not-inventing rules unit model.rust d keyOnsets;
-  not-inventing-bed = λ d. dead.not-inventing rules unit model.rust d bedOnsets;
-  not-refusing = λ d. dead.not-refuses-all rules unit IsFrame d passing;
+no-dead-units = record {
+  none = λ unit. record {
+    not-fixed = λ d. dead.not-fixed rules unit model.rust d isFrame reductionOf two-answers;
+    not-repeats = λ d. dead.not-repeats rules unit model.rust d isFrame reductionOf moves;
+    not-inventing = λ d. dead.not-inventing rules unit model.rust d keyOnsets;
+    not-inventing-bed = λ d. dead.not-inventing rules unit model.rust d bedOnsets;
+    not-refusing = λ d. dead.not-refuses-all rules unit isFrame d passing;
+  };
+  stuck-fixed = stuck-fixed;
+  repeating-repeats = repeating-repeats;
 }

@@ -5,8 +5,11 @@ pub mod Apart
 pub mod Valid
 pub mod Laws
 pub mod AgreesRust
+pub mod RustState
 pub mod AgreesLoudness
+pub mod ReadsLoudness
 pub mod Promise
 pub mod Silence
 pub mod Witness
+pub mod Units
 pub mod Dead

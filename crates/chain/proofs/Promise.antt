@@ -3,10 +3,12 @@ use Rattle.demands.specs.Demands.{EventDemands}
 use Rattle.demands.proofs.Demands.{event-demands}
 use Rattle.chain.specs.Rules.{rules, port}
 use Rattle.chain.specs.Rust.{rust}
+use Rattle.chain.specs.RustState.{stored}
 use Rattle.chain.specs.Loudness.{loudness}
 use Rattle.chain.proofs.Laws.{laws}
 use Rattle.chain.proofs.AgreesRust.{rust-agrees}
+use Rattle.chain.proofs.RustState.{rust-stores}
 use Rattle.chain.proofs.AgreesLoudness.{loudness-agrees}
 
-pub promised : EventDemands rules port rust loudness
-promised = event-demands rules port laws rust loudness rust-agrees loudness-agrees
+pub promised : EventDemands rules port rust loudness stored
+promised = event-demands rules port laws rust loudness rust-agrees loudness-agrees stored rust-stores

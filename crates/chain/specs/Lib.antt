@@ -5,5 +5,6 @@ pub mod Valid
 pub mod Numbers
 pub mod Rules
 pub mod Rust
+pub mod RustState
 pub mod Loudness
 pub mod Dead

@@ -8,7 +8,8 @@ ghost use Rattle.chain.specs.Strands.{Whole, finishedOf, strandsOf};
 ghost use Rattle.demands.specs.Demands.{EventDemands};
 ghost use Rattle.chain.specs.Rules.{rules, port};
 ghost use Rattle.chain.specs.Rust.{rust};
-ghost use Rattle.chain.specs.Loudness.{loudness};
+ghost use Rattle.chain.specs.RustState.{stored};
+ghost use Rattle.chain.specs.Loudness.{loudness, ReadsBs1770};
 ghost use Rattle.chain.specs.Dead.{NoDeadUnits};
 ghost use Rattle.chain.specs.Settings.{callRanges, imageRanges, outsideOf, outsideStrand, outsideDuck, outsideSettings, zeroedOf, storedStrand, storedDuck, storedOf};
 ghost use Rattle.chain.specs.Chain.{freshStrand, freshDuck, freshSettings, freshOf, inputsOf, workOf, refusedOf, passedOf, judgedOf, frameOf, setOf, resetOf};
@@ -554,10 +555,15 @@ impl Chain {
 
 // Demands 1 and 2 over every list of frames, settings calls and resets. The function does nothing: its contract is the promise.
 pub fn demands()
-    ensures { λ _. ⌜ EventDemands rules port rust loudness ⌝ }
+    ensures { λ _. ⌜ EventDemands rules port rust loudness stored ⌝ }
 {}
 
-// No unit that meets the demands answers a fixed reduction, repeats its first answer, invents onsets, or refuses every frame.
+// In every frame that passes the strands read, and the ducker is given, what BS.1770 says of all samples since a strand's last reset, unrounded.
+pub fn readings()
+    ensures { λ _. ⌜ ReadsBs1770 ⌝ }
+{}
+
+// No unit that meets the demands answers one reduction to every frame, repeats its answer to the first, invents onsets, or refuses every frame.
 pub fn dead_units()
     ensures { λ _. ⌜ NoDeadUnits ⌝ }
 {}

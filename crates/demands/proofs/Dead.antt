@@ -1,14 +1,15 @@
 -- No dead unit meets the demands. What a product adds is a witness, which speaks of the rules and the reference alone.
 use mathlib.Core.Path.{_≡_, refl, sym, ap, _∙_}
+use mathlib.Core.Bool.{Bool, true, false, cond, true≢false}
 use mathlib.Core.List.{[]}
 use Prim.Native.Nat.{ℕ, suc}
 use native.Mathlib.Omega.{arith}
 use borrow.Author.Tests.{eq-eqb}
 use lib.ListN.{length, replicate, length-replicate}
-use Rattle.demands.specs.Calls.{Log, empty, _▹_, here, Bytes, Call, event, save, restore, answer, done, Reply, refusal, passed, Seen, Rules, Images, Calls, eventCalls, allCalls, Port, Reference}
+use Rattle.demands.specs.Calls.{Log, empty, _▹_, here, Bytes, Call, event, save, restore, answer, done, Reply, refusal, passed, Seen, Step, gets, Rules, Images, Calls, eventCalls, allCalls, Port, Reference}
 use Rattle.demands.specs.Demands.{History, stateOf, modelOf, Passes, Story, begins, adds, keeps, said, from, seenFrom, after, sees, ported, Told, Demand1, hear, heard, Demand2, Demand3b, Demand3c}
 use Rattle.demands.proofs.Events.{onEvents, calls, story-calls}
-use Rattle.demands.specs.Dead.{Lived, firstOf, Passing, TwoStates, TwoAnswers, Moves, Fixed, Repeats, Invents, RefusesAll, OneImage, RestoresNothing}
+use Rattle.demands.specs.Dead.{Lived, First, now, earlier, Passing, TwoStates, TwoAnswers, Moves, Fixed, Repeats, Invents, RefusesAll, always, OneImage, RestoresNothing}
 
 -- ---- lists
 
@@ -34,10 +35,10 @@ module _ (R : Rules) (port : Port R (eventCalls R)) where
   lived-story empty v = begins
   lived-story (h ▹ e) v = adds (lived-story h (v .0)) refl (v .1)
 
-  first-passes : (h : History R) (e : R .Event) → Lived R (h ▹ e) → R .refuses (R .fresh) (firstOf R h e) ≡ 0
-  unfolding stateOf
-  first-passes empty e v = v .1
-  first-passes (h ▹ d) e v = first-passes h d (v .0)
+  -- the first event of a sort passed in its turn
+  first-lived : (sort : R .Event → Bool) {h past : History R} {f : R .Event} → First R sort h past f → Lived R h → Lived R (past ▹ f)
+  first-lived sort (now n s) v = v
+  first-lived sort (earlier p) v = first-lived sort p (v .0)
 
   module _ (M : Reference R) (d : Demand2 R E port M) where
     -- the event e after the history h is answered as the reference says
@@ -59,23 +60,22 @@ module _ (R : Rules) (port : Port R (eventCalls R)) where
         (d .equal (record { calls = h; history = h; saves = []; story = st }))
         (d .equal (record { calls = h ▹ e; history = h ▹ e; saves = []; story = adds st refl (v .1) }))
 
-    module _ {View : Type 0} (look : M .Said → View) where
-      -- a unit whose answers all look alike fails demand 2 where the reference is seen to say two things
-      pub not-fixed : TwoAnswers R M look → Fixed R M look port → ⊥
+    module _ (sort : R .Event → Bool) {View : Type 0} (look : M .Said → View) where
+      -- a unit whose answers of a sort all look alike fails demand 2 where the reference is seen to say two things
+      pub not-fixed : TwoAnswers R sort M look → Fixed R sort M look port → ⊥
       not-fixed w f =
           let a = right (w .h) (w .e) (w .lived) in
           let a′ = right (w .h′) (w .e′) (w .lived′) in
           w .apart (
-          sym (ap look (a .2)) ∙ f .fixed (w .h) (w .e) (a .0) (a .1) ∙ sym (f .fixed (w .h′) (w .e′) (a′ .0) (a′ .1)) ∙ ap look (a′ .2)
+          sym (ap look (a .2)) ∙ f .fixed (w .h) (w .e) (a .0) (w .of-sort) (a .1) ∙ sym (f .fixed (w .h′) (w .e′) (a′ .0) (w .of-sort′) (a′ .1)) ∙ ap look (a′ .2)
           )
 
       -- one that repeats its first answer fails it where the reference is seen to say something else later
-      pub not-repeats : Moves R M look → Repeats R M look port → ⊥
-      unfolding modelOf stateOf
+      pub not-repeats : Moves R sort M look → Repeats R sort M look port → ⊥
       not-repeats w f =
           let a = right (w .h) (w .e) (w .lived) in
-          let a₁ = right empty (firstOf R (w .h) (w .e)) (tt, first-passes (w .h) (w .e) (w .lived)) in
-          w .apart (sym (ap look (a .2)) ∙ f .repeats (w .h) (w .e) (a .0) (a₁ .0) (a₁ .1) (a .1) ∙ ap look (a₁ .2))
+          let a₁ = right (w .past) (w .first) (first-lived sort (w .is-first) (w .lived)) in
+          w .apart (sym (ap look (a .2)) ∙ f .repeats (w .h) (w .past) (w .e) (w .first) (a .0) (a₁ .0) (w .is-first) (w .of-sort) (a₁ .1) (a .1) ∙ ap look (a₁ .2))
 
     -- one that counts more than the reference, wherever it is
     pub not-inventing : (count : M .Said → ℕ) → Invents R M count port → ⊥
@@ -87,13 +87,31 @@ module _ (R : Rules) (port : Port R (eventCalls R)) where
         omega (arith, z, w .more)
 
   -- one that refuses every event of some sort fails demand 1 where one of them passes
-  pub not-refuses-all : (Sort : R .Event → Type 0) → Demand1 R E port → Passing R Sort → RefusesAll R Sort port → ⊥
+  pub not-refuses-all : (sort : R .Event → Bool) → Demand1 R E port → Passing R sort → RefusesAll R sort port → ⊥
   unfolding from
-  not-refuses-all Sort d w f =
+  not-refuses-all sort d w f =
       let p = d .answered empty (w .event) (w .passes) in
-      let q = f .refuses empty (w .event) (w .sort) in
+      let q = f .refuses empty (w .event) (w .of-sort) in
       let r : _≡_ {A = Reply (R .Answer)} (refusal (q .0)) (passed (answer (R .answers (R .fresh) (w .event)))) = sym (q .1) ∙ p in
       let z : _≡_ {A = ℕ} 0 1 = cc in omega arith
+
+-- ---- a unit that gives one answer to every event of a sort is fixed, whatever it does with the others
+
+module _ (R : Rules) (sort : R .Event → Bool) (M : Reference R) {View : Type 0} (look : M .Said → View) where
+  same-answer : {a b : R .Answer} → _≡_ {A = Reply (R .Answer)} (passed (answer a)) (passed (answer b)) → a ≡ b
+  same-answer e = cc
+
+  -- by the test of the sort
+  answered-by : (of : Bool) (a b : R .Answer) (s : R .State) (t : Step (R .State) (R .Answer)) → of ≡ true
+      → cond of (gets (passed (answer a)) [] s) t .seen .reply ≡ passed (answer b) → b ≡ a
+  answered-by true a b s t h q = sym (same-answer q)
+  answered-by false a b s t h q = absurd (true≢false (sym h))
+
+  pub always-fixed : (a : R .Answer) (unit : Port R (eventCalls R)) → Fixed R sort M look (always R sort a unit)
+  always-fixed a unit = record {
+    v = look (M .part a);
+    fixed = λ es e b of q. ap (λ x. look (M .part x)) (answered-by (sort e) a b _ _ of q);
+  }
 
 -- ---- units that save or restore wrongly
 

@@ -3,21 +3,18 @@ use mathlib.Core.Path.{_≡_, sym, ap, _∙_, subst}
 use mathlib.Core.List.{List, _∷_}
 use Rattle.demands.specs.Calls.{Log, _▹_, Among, Bytes, Call, save, done, passed, gets, Rules, Images, owed, Calls, eventCalls, allCalls, Port, Reference}
 use Rattle.demands.specs.Demands.{History, Save, stateOf, Passes, Story, begins, adds, keeps, stays, returns, from, seenFrom, after, sees, ported, Told, EventDemands, Demand3a, Demand3b, Demand3c, Onwards, ruled, NoPort, Demands}
-use Rattle.demands.specs.Laws.{EventLaws, Laws, Agrees}
+use Rattle.demands.specs.Laws.{EventLaws, Laws, Agrees, Stores}
 use Rattle.demands.proofs.Steps.{Steps, event-steps, all-steps, image-inj}
 use Rattle.demands.proofs.Lists as lists
 use Rattle.demands.proofs.Events.{events-proper}
 
 -- ---- events alone
 
--- the chain is valid after every list of events
-pub events-valid : (R : Rules) (port : Port R (eventCalls R)) (L : EventLaws R port) (es : Log (R .Event)) → L .Valid (after R (eventCalls R) port es)
-events-valid R port L es = lists.after-valid R (eventCalls R) port (event-steps R port L) es
-
 pub event-demands : (R : Rules) (port : Port R (eventCalls R)) (L : EventLaws R port) (rust loudness : Reference R)
-    → Agrees R (L .Valid) rust → Agrees R (L .Valid) loudness → EventDemands R port rust loudness
-event-demands R port L rust loudness A B =
-    let a = lists.answering R (eventCalls R) port (event-steps R port L) rust loudness A B in
+    (A : Agrees R (L .Valid) rust) → Agrees R (L .Valid) loudness
+    → (stored : rust .Model → R .State) → Stores R (L .Valid) rust A stored → EventDemands R port rust loudness stored
+event-demands R port L rust loudness A B stored same =
+    let a = lists.answering R (eventCalls R) port (event-steps R port L) rust loudness A B stored same in
     record { answering = a; every = λ es. a .lists .told es (events-proper R port es) }
 
 -- ---- events, saves and restores
@@ -32,7 +29,10 @@ module _ (R : Rules) (I : Images R) (port : Port R (allCalls R I)) (L : Laws R I
   abbrev steps : Steps R S port
   steps = all-steps R I port L
 
-  -- the chain is valid after every list of calls
+  -- from a valid chain on, the chain is valid after every list of calls
+  pub from-valid : (s : State) (cs : Log (Call Event)) → L .events .Valid s → L .events .Valid (from R S port s cs)
+  from-valid s cs v = lists.from-valid R S port steps s cs v
+
   pub valid : (cs : Log (Call Event)) → L .events .Valid (after R S port cs)
   valid cs = lists.after-valid R S port steps cs
 
@@ -40,9 +40,10 @@ module _ (R : Rules) (I : Images R) (port : Port R (allCalls R I)) (L : Laws R I
   kept : (t : Told R S port) (x : Save R) → Among x (t .saves) → L .events .Valid (stateOf R (x .past)) × (image (stateOf R (x .past)) ≡ x .wrote)
   kept t x m = lists.good R S port steps (t .story) .kept x m
 
-  pub demand3a : Demand3a R S port I
-  demand3a = record {
+  pub demand3a : (M : Reference R) (A : Agrees R (L .events .Valid) M) (stored : M .Model → State) → Stores R (L .events .Valid) M A stored → Demand3a R S port I M stored
+  demand3a M A stored same = record {
     writes = λ t x m. sym (kept t x m .1);
+    writes-stored = λ t x m. sym (kept t x m .1) ∙ ap image (lists.saved-state R S port steps M A stored same (t .story) x m);
     accepted = λ t x m c k.
         let z = lists.kept-passes R S port steps (t .story) x m c k in
         (z, lists.then-passed R S port steps (t .story) c z ∙ ap (λ (c : Call Event). passed (owed R (stateOf R (t .history)) c)) k);
@@ -120,10 +121,11 @@ module _ (R : Rules) (I : Images R) (port : Port R (allCalls R I)) (L : Laws R I
   no-port = record { same = λ cs h xs. (to-ruled, to-ported) }
 
   -- ---- all of it
-  pub demands : (rust loudness : Reference R) → Agrees R (L .events .Valid) rust → Agrees R (L .events .Valid) loudness → Demands R I port rust loudness
-  demands rust loudness A B = record {
-    answering = lists.answering R S port steps rust loudness A B;
-    three-a = demand3a;
+  pub demands : (rust loudness : Reference R) (A : Agrees R (L .events .Valid) rust) → Agrees R (L .events .Valid) loudness
+      → (stored : rust .Model → State) → Stores R (L .events .Valid) rust A stored → Demands R I port rust loudness stored
+  demands rust loudness A B stored same = record {
+    answering = lists.answering R S port steps rust loudness A B stored same;
+    three-a = demand3a rust A stored same;
     three-b = demand3b;
     three-c = demand3c;
     onwards = onwards;

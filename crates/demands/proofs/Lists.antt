@@ -4,8 +4,8 @@ use mathlib.Core.List.{List, [], _∷_}
 use mathlib.Core.Logic.{_⊎_, ⊎-elim, inl, inr}
 use Prim.Native.Nat.{ℕ, zero, suc}
 use Rattle.demands.specs.Calls.{Log, empty, _▹_, Among, here, there, Bytes, Call, event, save, restore, lentBy, answer, done, refusal, passed, gets, Rules, owed, Calls, Port, Reference}
-use Rattle.demands.specs.Demands.{History, Save, stateOf, modelOf, Passes, Refused, Story, begins, adds, keeps, stays, returns, said, from, seenFrom, after, sees, ported, Wrote, Proper, Demand1, heard, Demand2, Lists, Answering}
-use Rattle.demands.specs.Laws.{Agrees}
+use Rattle.demands.specs.Demands.{History, Save, stateOf, modelOf, Passes, Refused, Story, begins, adds, keeps, stays, returns, said, from, seenFrom, after, sees, ported, Wrote, Proper, Demand1, heard, Demand2, Lists, SameState, Answering}
+use Rattle.demands.specs.Laws.{Agrees, Stores}
 use Rattle.demands.proofs.Steps.{Steps, event-save, event-restore, save-restore, not-zero}
 
 -- ---- places in a list
@@ -51,7 +51,7 @@ module _ (R : Rules) (S : Calls R) (port : Port R S) (L : Steps R S port) where
 
   -- ---- any list of calls
 
-  from-valid : (s : State) (cs : Log Sent) → Valid s → Valid (from R S port s cs)
+  pub from-valid : (s : State) (cs : Log Sent) → Valid s → Valid (from R S port s cs)
   unfolding from
   from-valid s empty v = v
   from-valid s (cs ▹ c) v = step-valid (from R S port s cs) c (from-valid s cs v)
@@ -212,5 +212,29 @@ module _ (R : Rules) (S : Calls R) (port : Port R S) (L : Steps R S port) where
     pub demand2 : Demand2 R S port M
     demand2 = record { equal = λ t. hears (t .story) }
 
-  pub answering : (rust loudness : Reference R) → Agrees R Valid rust → Agrees R Valid loudness → Answering R S port rust loudness
-  answering rust loudness A B = record { one = demand1; two-rust = demand2 rust A; two-loudness = demand2 loudness B; lists = lists }
+  -- ---- the state is the reference's
+
+  module _ (M : Reference R) (A : Agrees R Valid M) (stored : M .Model → State) (same : Stores R Valid M A stored) where
+    pub saved-state : {cs : Log Sent} {h : History R} {xs : List (Save R)} → Story R S (ported R S port) cs h xs
+        → (x : Save R) → Among x xs → stateOf R (x .past) ≡ stored (modelOf R M (x .past))
+    saved-state st x m = same (stateOf R (x .past)) (modelOf R M (x .past)) (good st .kept x m .0) (likes M A st .1 x m)
+
+    history-state : {cs : Log Sent} {h : History R} {xs : List (Save R)} → Story R S (ported R S port) cs h xs → stateOf R h ≡ stored (modelOf R M h)
+    history-state {h = h} st = same (stateOf R h) (modelOf R M h) (good st .valid) (likes M A st .0)
+
+    pub same-state : SameState R S port M stored
+    same-state = record {
+      rules = λ t. history-state (t .story);
+      chain = λ t. good (t .story) .state ∙ history-state (t .story);
+      saves = λ t. saved-state (t .story);
+    }
+
+  pub answering : (rust loudness : Reference R) (A : Agrees R Valid rust) → Agrees R Valid loudness → (stored : rust .Model → State) → Stores R Valid rust A stored
+      → Answering R S port rust loudness stored
+  answering rust loudness A B stored same = record {
+    one = demand1;
+    two-rust = demand2 rust A;
+    two-loudness = demand2 loudness B;
+    lists = lists;
+    state = same-state rust A stored same;
+  }

@@ -151,12 +151,21 @@ module _ (R : Rules) where
         -- It does not matter which save a restore names, of those that wrote its bytes.
         pub any-name : (t t′ : Told) → t .calls ≡ t′ .calls → stateOf (t .history) ≡ stateOf (t′ .history)
 
-      -- ---- DEMANDS 1 AND 2 need no images. The Rust and BS.1770's loudness are two references.
-      pub record Answering (rust loudness : Reference R) : Type 0 where
+      -- ---- THE STATE IS THE REFERENCE'S. `stored` gives, of all that a reference keeps, the numbers that a chain stores.
+      -- The state that the rules give for a history is that of the reference, run afresh over it; so the chain has it,
+      pub record SameState (M : Reference R) (stored : M .Model → State) : Type 0 where
+        pub rules : (t : Told) → stateOf (t .history) ≡ stored (modelOf M (t .history))
+        pub chain : (t : Told) → after (t .calls) ≡ stored (modelOf M (t .history))
+        -- and so had the chain at each accepted save.
+        pub saves : (t : Told) (x : Save R) → Among x (t .saves) → stateOf (x .past) ≡ stored (modelOf M (x .past))
+
+      -- ---- DEMANDS 1 AND 2 need no images. The Rust and BS.1770's loudness are two references; the Rust's state is the chain's.
+      pub record Answering (rust loudness : Reference R) (stored : rust .Model → State) : Type 0 where
         pub one : Demand1
         pub two-rust : Demand2 rust
         pub two-loudness : Demand2 loudness
         pub lists : Lists
+        pub state : SameState rust stored
 
       module _ (I : Images R) where
         open Images I using (image, bits)
@@ -164,9 +173,11 @@ module _ (R : Rules) where
         -- ---- DEMAND 3. Take, from a fresh chain, any list of frames, settings, resets, saves and restores, refused ones
         -- included, in which each accepted restore brings an image saved earlier in the same list.
 
-        -- Each accepted save writes the image of the state that the rules give for the history before it.
-        pub record Demand3a : Type 0 where
+        -- Each accepted save writes the image of the state that the rules give for the history before it,
+        pub record Demand3a (M : Reference R) (stored : M .Model → State) : Type 0 where
           pub writes : (t : Told) (x : Save R) → Among x (t .saves) → x .wrote ≡ image (stateOf (x .past))
+          -- which is the state of the reference, run afresh over that history.
+          pub writes-stored : (t : Told) (x : Save R) → Among x (t .saves) → x .wrote ≡ image (stored (modelOf M (x .past)))
           -- Such bytes are never refused.
           pub accepted : (t : Told) (x : Save R) → Among x (t .saves) → (c : Sent) → call c ≡ restore (x .wrote)
               → Passes (stateOf (t .history)) c × (sees (t .calls) c .reply ≡ passed done)
@@ -200,14 +211,14 @@ module _ (R : Rules) where
           pub same : (cs : Log Sent) (h : History R) (xs : List (Save R)) → Story ported cs h xs ↔ Story (ruled I) cs h xs
 
   -- ---- A CHAIN THAT TAKES EVENTS ALONE: demands 1 and 2, and every list of events has a history
-  pub record EventDemands (port : Port R (eventCalls R)) (rust loudness : Reference R) : Type 0 where
-    pub answering : Answering (eventCalls R) port rust loudness
+  pub record EventDemands (port : Port R (eventCalls R)) (rust loudness : Reference R) (stored : rust .Model → R .State) : Type 0 where
+    pub answering : Answering (eventCalls R) port rust loudness stored
     pub every : (es : Log (R .Event)) → (t : Told (eventCalls R) port) × (t .calls ≡ es)
 
   -- ---- A CHAIN THAT TAKES EVENTS, SAVES AND RESTORES: all three demands
-  pub record Demands (I : Images R) (port : Port R (allCalls R I)) (rust loudness : Reference R) : Type 0 where
-    pub answering : Answering (allCalls R I) port rust loudness
-    pub three-a : Demand3a (allCalls R I) port I
+  pub record Demands (I : Images R) (port : Port R (allCalls R I)) (rust loudness : Reference R) (stored : rust .Model → R .State) : Type 0 where
+    pub answering : Answering (allCalls R I) port rust loudness stored
+    pub three-a : Demand3a (allCalls R I) port I rust stored
     pub three-b : Demand3b (allCalls R I) port I
     pub three-c : Demand3c (allCalls R I) port I
     pub onwards : Onwards (allCalls R I) port I

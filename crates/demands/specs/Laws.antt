@@ -44,3 +44,7 @@ module _ (R : Rules) where
     pub like-new : Like fresh (M .new)
     pub like-next : (s : State) (m : M .Model) (e : Event) → Valid s → Like s m → refuses s e ≡ 0 → Like (next s e) (M .feed m e)
     pub like-says : (s : State) (m : M .Model) (e : Event) → Valid s → Like s m → refuses s e ≡ 0 → M .part (answers s e) ≡ M .says m e
+
+  -- and of all that it keeps, `stored` gives the chain's state
+  abbrev pub Stores : (Valid : State → Type 0) (M : Reference R) → Agrees Valid M → (M .Model → State) → Type 0
+  Stores Valid M A stored = (s : State) (m : M .Model) → Valid s → A .Like s m → s ≡ stored m

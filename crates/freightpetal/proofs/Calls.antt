@@ -1,5 +1,5 @@
 -- What each call does, and that it is what the port does.
-use mathlib.Core.Path.{_≡_, sym, ap, _∙_}
+use mathlib.Core.Path.{_≡_, refl, ap}
 use mathlib.Core.List.{List}
 use Prim.Native.Nat.{ℕ}
 use lib.Ieee.{Float}
@@ -10,7 +10,7 @@ use Rattle.chain.specs.declared.Framed.{Framed}
 use Rattle.chain.specs.declared.Settings.{Settings}
 use Rattle.chain.specs.declared.Verdict.{Verdict}
 use Rattle.chain.specs.Chain.{frameOf, setOf, resetOf}
-use Rattle.chain.specs.Rules.{Asked, frame, settings, reset, Answered, afterFrame, afterChange}
+use Rattle.chain.specs.Rules.{HeldStrand, HeldDuck, Asked, frame, settings, reset, Answered, afterFrame, afterChange}
 use Rattle.image.specs.Image.{saveVerdict, savedIn, restoreOf}
 use Rattle.image.specs.Port.{port}
 use Rattle.freightpetal.specs.Steps.{afterSave, afterRestore}
@@ -22,8 +22,9 @@ module _ (c : Chain) where
   pub on-frame : (key bed : List Float) (r : Framed) → r ≡ frameOf c key bed → (r ≡ frameOf c key bed) × (afterFrame r ≡ port c (event (frame key bed)))
   on-frame key bed r e = (e, ap {B = Does} afterFrame e)
 
-  pub on-set : (s : Settings) (r : Changed) → r ≡ setOf c s → (r ≡ setOf c s) × ((a : Asked) → a .values ≡ s → afterChange r ≡ port c (event (settings a)))
-  on-set s r e = (e, λ a q. ap {B = Does} afterChange (e ∙ ap (setOf c) (sym q)))
+  pub on-set : (s : Settings) (r : Changed) → r ≡ setOf c s → HeldStrand (s .key) → HeldStrand (s .bed) → HeldDuck (s .duck)
+      → (r ≡ setOf c s) × ((a : Asked) × (a .values ≡ s) × (afterChange r ≡ port c (event (settings a))))
+  on-set s r e k b d = (e, (record { values = s; key = k; bed = b; duck = d }, refl, ap {B = Does} afterChange e))
 
   pub on-reset : (n : ℕ) (r : Changed) → r ≡ resetOf c n → (r ≡ resetOf c n) × (afterChange r ≡ port c (event (reset n)))
   on-reset n r e = (e, ap {B = Does} afterChange e)

@@ -7,9 +7,11 @@ use Rattle.demands.proofs.Demands as demands
 use Rattle.chain.specs.declared.Chain.{Chain}
 use Rattle.chain.specs.Rules.{rules}
 use Rattle.chain.specs.Rust.{rust}
+use Rattle.chain.specs.RustState.{stored}
 use Rattle.chain.specs.Loudness.{loudness}
 use Rattle.chain.specs.Valid.{Valid}
 use Rattle.chain.proofs.AgreesRust.{rust-agrees}
+use Rattle.chain.proofs.RustState.{rust-stores}
 use Rattle.chain.proofs.AgreesLoudness.{loudness-agrees}
 use Rattle.image.specs.Image.{image, refusesImage, restoreOf}
 use Rattle.image.specs.Port.{images, port}
@@ -18,8 +20,8 @@ use Rattle.image.proofs.Foreign as foreign
 use Rattle.image.proofs.Plug.{all-laws}
 use Rattle.freightpetal.specs.Images.{ImageLaws}
 
-pub promised : Demands rules images port rust loudness
-promised = demands.demands rules images port all-laws rust loudness rust-agrees loudness-agrees
+pub promised : Demands rules images port rust loudness stored
+promised = demands.demands rules images port all-laws rust loudness rust-agrees loudness-agrees stored rust-stores
 
 accepted : (old : Chain) (b : List ℕ) → refusesImage b ≡ 0 → Valid (restoreOf old b .chain) × (image (restoreOf old b .chain) ≡ b)
 accepted old b e = rw (restore-accepted b old e) (read-valid b, read-accepted b e)

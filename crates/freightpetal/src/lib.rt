@@ -6,6 +6,7 @@ ghost use Rattle.demands.specs.Demands.{Demands};
 ghost use Rattle.chain.specs.Chain.{freshOf, frameOf, setOf, resetOf};
 ghost use Rattle.chain.specs.Rules.{Asked, frame, settings, reset, rules, afterFrame, afterChange};
 ghost use Rattle.chain.specs.Rust.{rust};
+ghost use Rattle.chain.specs.RustState.{stored};
 ghost use Rattle.chain.specs.Loudness.{loudness};
 ghost use Rattle.image.specs.Image.{saveVerdict, savedIn, restoreOf};
 ghost use Rattle.freightpetal.specs.Dead.{NoDeadUnits};
@@ -34,7 +35,7 @@ pub fn frame(c: Chain, key: &[f32], bed: &[f32]) -> Framed
 
 // All settings are replaced. Refusal 3.
 pub fn set(c: Chain, s: Settings) -> Changed
-    ensures { λ r. ⌜ (r ≡ setOf c s) × ((a : Asked) → a .values ≡ s → afterChange r ≡ port c (event (settings a))) ⌝ }
+    ensures { λ r. ⌜ (r ≡ setOf c s) × ((a : Asked) × (a .values ≡ s) × (afterChange r ≡ port c (event (settings a)))) ⌝ }
 {
     c.set(s)
 }
@@ -62,7 +63,7 @@ pub fn restore(c: Chain, bytes: &[u8]) -> Changed
 
 // The three demands over every list of calls. The function does nothing: its contract is the promise.
 pub fn demands()
-    ensures { λ _. ⌜ Demands rules images port rust loudness ⌝ }
+    ensures { λ _. ⌜ Demands rules images port rust loudness stored ⌝ }
 {}
 
 // What is promised of images beside the demands.

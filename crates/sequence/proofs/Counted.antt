@@ -1,4 +1,4 @@
--- A fresh history is valid, and good values more keep it so.
+-- A fresh history is valid, and good values more keep it so. Its places are what it holds, and blanks.
 use Prim.Native.Nat.{ℕ, zero, suc, _+_, _-_, _≤_, _<_}
 use native.Mathlib.Omega.{arith}
 use mathlib.Core.Bool.{Bool, true, false}
@@ -6,9 +6,9 @@ use mathlib.Core.Path.{_≡_, refl, ap, _∙_}
 use mathlib.Core.List.{List, _++_}
 use lib.Dec.{ltb}
 use lib.ListN.{length, getD, drop, replicate, length-replicate, length-append, length-drop, List·getD-append}
-use lib.Seq.{getD-append-add, getD-drop, getD-take}
+use lib.Seq.{ext-getD, getD-append-add, getD-drop, getD-take}
 use borrow.Author.Tests.{ltb-true, ltb-false}
-use Rattle.sequence.specs.History.{latest, held, countAfter, placesAfter}
+use Rattle.sequence.specs.History.{latest, held, filled, countAfter, placesAfter}
 use Rattle.sequence.specs.Counted.{Counted}
 use Rattle.sequence.proofs.Places.{count-within, kept, kept-length, held-length, places-length}
 
@@ -26,13 +26,47 @@ module _ {A : Type 0} (Good : A → Type 0) (blank : A) (n : ℕ) where
     rest = λ k h. all-blank n k;
   }
 
+  module _ (count : ℕ) (places : List A) (ok : Counted Good blank n count places) where
+    pub counted-length : length (held count places) ≡ count
+    counted-length = held-length count places ∙ omega (arith, ok .within, ok .size)
+
+    filled-length : length (filled blank n (held count places)) ≡ length places
+    unfolding filled
+    filled-length =
+        length-append (held count places) (drop (length (held count places)) (replicate n blank))
+        ∙ omega (arith, length-drop (length (held count places)) (replicate n blank), length-replicate n blank, counted-length, ok .within, ok .size)
+
+    filled-at : (k : ℕ) → getD (filled blank n (held count places)) k blank ≡ getD places k blank
+    unfolding filled
+    filled-at k = go (ltb k (length (held count places))) refl
+      where
+        go : (b : Bool) → ltb k (length (held count places)) ≡ b
+            → getD (held count places ++ drop (length (held count places)) (replicate n blank)) k blank ≡ getD places k blank
+        go true e =
+            let l : k < length (held count places) = ltb-true k (length (held count places)) e in
+            List·getD-append (held count places) (drop (length (held count places)) (replicate n blank)) blank k l
+            ∙ getD-take count places k blank (omega (arith, counted-length))
+        go false e =
+            let h : length (held count places) ≤ k = ltb-false k (length (held count places)) e in
+            let j = k - length (held count places) in
+            let at : k ≡ length (held count places) + j = omega arith in
+            rw (ok .rest k (omega (arith, counted-length)))
+            (ap (λ (i : ℕ). getD (held count places ++ drop (length (held count places)) (replicate n blank)) i blank) at
+            ∙ getD-append-add (held count places) (drop (length (held count places)) (replicate n blank)) j blank
+            ∙ getD-drop (length (held count places)) (replicate n blank) j blank
+            ∙ all-blank n (length (held count places) + j))
+
+    -- the places are what they hold, and blanks
+    pub counted-filled : filled blank n (held count places) ≡ places
+    counted-filled = ext-getD blank (filled blank n (held count places)) places filled-length (λ k h. filled-at k)
+
   module _ (count : ℕ) (places xs : List A) (ok : Counted Good blank n count places) (new : (k : ℕ) → k < length xs → Good (getD xs k blank)) where
     -- each value is good, of those held and those new
     all-good : (k : ℕ) → k < length (held count places ++ xs) → Good (getD (held count places ++ xs) k blank)
     all-good k h = go (ltb k (length (held count places))) refl
       where
         size : length (held count places) ≡ count
-        size = held-length count places ∙ omega (arith, ok .within, ok .size)
+        size = counted-length count places ok
 
         go : (b : Bool) → ltb k (length (held count places)) ≡ b → Good (getD (held count places ++ xs) k blank)
         go true e =

@@ -3,7 +3,7 @@ use Prim.Native.Nat.{ℕ, _+_, _-_, min}
 use mathlib.Core.Bool.{cond}
 use mathlib.Core.List.{List, [], _∷_, _++_, reverse}
 use lib.Dec.{eqb}
-use lib.ListN.{length, take, drop}
+use lib.ListN.{length, take, drop, replicate}
 
 -- the last n of a list
 unfoldable pub latest : {A : Type 0} → ℕ → List A → List A
@@ -24,6 +24,10 @@ held count places = take count places
 -- the places with the list l in the first of them
 abbrev pub laid : {A : Type 0} → List A → List A → List A
 laid l places = l ++ drop (length l) places
+
+-- n places with the list xs in the first of them, and the rest blank
+unfoldable pub filled : {A : Type 0} → A → ℕ → List A → List A
+filled blank n xs = laid xs (replicate n blank)
 
 -- the count and the places after the values xs more: the latest that there is room for, and the rest of the places as it was
 unfoldable pub countAfter : ℕ → ℕ → ℕ → ℕ
