@@ -1,15 +1,18 @@
 -- Calls on a lent image do what the port does, over every list: a restore of a chain's image gives the chain back.
 use mathlib.Core.Path.{_≡_, refl, sym, ap, _∙_}
+use mathlib.Core.Bool.{Bool, true, false, cond}
 use mathlib.Core.List.{List, []}
+use lib.Dec.{eqb}
 use Prim.Native.Nat.{ℕ, zero, suc}
 use native.Mathlib.Omega.{arith}
-use borrow.Author.Tests.{eq-eqb}
+use borrow.Author.Tests.{eq-eqb, ne-eqb}
 use lib.Ieee.{Float}
 use lib.ListN.{length}
 use Rattle.demands.specs.Table.{numberOf}
-use Rattle.demands.specs.Calls.{Log, empty, _▹_, Reply, refusal, passed, answer, Step, eventCalls}
-use Rattle.demands.specs.Demands.{after, from}
-use Rattle.demands.proofs.Demands.{events-valid}
+use Rattle.demands.specs.declared.Refusal.the-variants.{WrongLength}
+use Rattle.demands.specs.Calls.{Log, empty, _▹_, Call, event, save, restore, Reply, refusal, passed, answer, Step, gets}
+use Rattle.demands.specs.Demands.{from}
+use Rattle.demands.proofs.Demands.{from-valid}
 use Rattle.chain.specs.declared.Answer.{Answer}
 use Rattle.chain.specs.declared.Chain.{Chain}
 use Rattle.chain.specs.declared.Changed.{Changed}
@@ -19,15 +22,19 @@ use Rattle.chain.specs.declared.Outcome.the-variants as outcome
 use Rattle.chain.specs.declared.Verdict.{Verdict}
 use Rattle.chain.specs.declared.Verdict.the-variants as verdict
 use Rattle.chain.specs.Chain.{freshOf, frameOf, setOf, resetOf}
-use Rattle.chain.specs.Rules.{Event, frame, settings, reset, Answered, shown, rules, refuses, port, replyOf, notedOf}
+use Rattle.chain.specs.Rules.{Event, frame, settings, reset, Answered, shown, rules, refuses, replyOf, notedOf}
+use Rattle.chain.specs.Rules as events
 use Rattle.chain.specs.Valid.{Valid}
-use Rattle.chain.proofs.Laws.{laws, refused, passes}
+use Rattle.chain.proofs.Laws.{refused, passes}
 use Rattle.image.specs.Layout.{imageBytes}
-use Rattle.image.specs.Image.{image, saveVerdict, savedIn}
-use Rattle.image.proofs.Laws.{image-length, restore-image}
+use Rattle.image.specs.Image.{image, refusesImage, saveVerdict, savedIn, restoreOf}
+use Rattle.image.specs.Port.{images, port}
+use Rattle.image.specs.Port as images
+use Rattle.image.proofs.Laws.{image-length, image-accepted, accepted-image, read-accepted, restore-accepted, restore-unchanged, restore-image}
+use Rattle.image.proofs.Plug.{all-laws}
 use Rattle.words.specs.Words.{answerWords}
-use Rattle.freightpetal_c.specs.Lent.{codeOf, Answered as Told, heardIn, framedIn, openedFrame, frameIn, savedAs, changedIn, setIn, resetIn}
-use Rattle.freightpetal_c.specs.Laws.{leftBy, lentAfter, numberIn, LentLaws}
+use Rattle.freightpetal_c.specs.Lent.{codeOf, codeIn, Answered as Told, heardIn, framedIn, openedFrame, frameIn, savedAs, changedIn, openedSet, setIn, openedReset, resetIn}
+use Rattle.freightpetal_c.specs.Laws.{leftBy, Done, doneBy, lentFrom, numberIn, doneIn, chainFrom, LentLaws}
 
 -- a save into bytes of the right length writes the image
 save-right : (c : Chain) (b : List ℕ) → length b ≡ imageBytes → savedIn c b ≡ image c
@@ -46,10 +53,10 @@ over-image c d v = save-right c (image d) (image-length d v)
 not-suc : {n m : ℕ} → m ≡ suc n → m ≡ 0 → ⊥
 not-suc e z = omega arith
 
-stays : (c : Chain) (e : Event) (n : ℕ) → port c e .seen .reply ≡ refusal n → port c e .state ≡ c
+stays : (c : Chain) (e : Event) (n : ℕ) → events.port c e .seen .reply ≡ refusal n → events.port c e .state ≡ c
 stays c e n p = go (refuses c e) refl
   where
-    go : (m : ℕ) → refuses c e ≡ m → port c e .state ≡ c
+    go : (m : ℕ) → refuses c e ≡ m → events.port c e .state ≡ c
     go zero z =
         let q : _≡_ {A = Reply Answered} (refusal n) (passed (answer _)) = sym p ∙ ap (λ (s : Step Chain Answered). s .seen .reply) (passes c e z) in
         let y : _≡_ {A = ℕ} 0 1 = cc in absurd (omega arith)
@@ -79,7 +86,7 @@ module _ (c : Chain) (v : Valid c) where
       go verdict.Passed e = (refl, over-image (r .chain) c v)
       go (verdict.Refused n) e = (refl, ap image (sym (k (numberOf n) (ap notedOf e))))
 
-  left : (e : Event) → (leftBy (image c) e .code ≡ numberIn (port c e .seen .reply)) × (leftBy (image c) e .bytes ≡ image (port c e .state))
+  left : (e : Event) → (leftBy (image c) e .code ≡ numberIn (events.port c e .seen .reply)) × (leftBy (image c) e .bytes ≡ image (events.port c e .state))
   unfolding setIn resetIn
   left (frame key bed) = rw (frame-on [] key bed) (frame-left [] (frameOf c key bed) (stays c (frame key bed)))
   left (settings a) =
@@ -93,26 +100,103 @@ module _ (c : Chain) (v : Valid c) where
       go (outcome.Passed y) e = let q : y ≡ x = cc in ap answerWords q
       go (outcome.Refused r) e = let y : _≡_ {A = ℕ} 0 1 = cc in absurd (omega arith)
 
+-- ---- lent bytes that are an image, and lent bytes that are none
+
+code-is : (b : List ℕ) → codeIn b ≡ refusesImage b
+code-is b = go (refusesImage b) refl
+  where
+    go : (n : ℕ) → refusesImage b ≡ n → codeIn b ≡ refusesImage b
+    go zero z = ap (λ (r : Changed). codeOf (r .verdict)) (restore-accepted b freshOf z) ∙ sym z
+    go (suc n) z =
+        let r = restore-unchanged b freshOf (not-suc z) in
+        ap (λ (r : Changed). codeOf (r .verdict)) (r .2) ∙ sym (r .1)
+
+image-code : (c : Chain) → Valid c → codeIn (image c) ≡ 0
+image-code c v = code-is (image c) ∙ image-accepted c v
+
+module _ (b : List ℕ) (n : codeIn b ≡ 0 → ⊥) where
+  closed-frame : (a : List ℕ) (key bed : List Float) → frameIn b a key bed ≡ record { code = codeIn b; bytes = b; words = a }
+  unfolding frameIn
+  closed-frame a key bed = go (restoreOf freshOf b .verdict) n
+    where
+      go : (v : Verdict) → (codeOf v ≡ 0 → ⊥) → openedFrame b a key bed (restoreOf freshOf b .chain) v ≡ record { code = codeOf v; bytes = b; words = a }
+      go verdict.Passed k = absurd (k refl)
+      go (verdict.Refused r) k = refl
+
+  closed : (e : Event) → leftBy b e ≡ record { code = codeIn b; bytes = b }
+  unfolding setIn resetIn
+  closed (frame key bed) = ap (λ (t : Told). record { code = t .code; bytes = t .bytes }) (closed-frame [] key bed)
+  closed (settings a) = go (restoreOf freshOf b .verdict) n
+    where
+      go : (v : Verdict) → (codeOf v ≡ 0 → ⊥) → openedSet b (a .values) (restoreOf freshOf b .chain) v ≡ record { code = codeOf v; bytes = b }
+      go verdict.Passed k = absurd (k refl)
+      go (verdict.Refused r) k = refl
+  closed (reset m) = go (restoreOf freshOf b .verdict) n
+    where
+      go : (v : Verdict) → (codeOf v ≡ 0 → ⊥) → openedReset b m (restoreOf freshOf b .chain) v ≡ record { code = codeOf v; bytes = b }
+      go verdict.Passed k = absurd (k refl)
+      go (verdict.Refused r) k = refl
+
+-- ---- any call on a chain's image
+
+module _ (c : Chain) (v : Valid c) where
+  save-done : (l : List ℕ) → doneBy (image c) (save l) ≡ doneIn (port c (save l))
+  unfolding saveVerdict savedIn
+  save-done l = rw (image-length c v) (go (eqb (length l) imageBytes))
+    where
+      go : (t : Bool) → record { code = cond t 0 6; beside = cond t (image c) l; bytes = image c }
+          ≡ doneIn (gets (images.replyOf (cond t verdict.Passed (verdict.Refused WrongLength))) (cond t (image c) l) c)
+      go true = refl
+      go false = refl
+
+  restore-done : (b : List ℕ) → doneBy (image c) (restore b) ≡ doneIn (port c (restore b))
+  restore-done b = go (refusesImage b) refl
+    where
+      go : (n : ℕ) → refusesImage b ≡ n → doneBy (image c) (restore b) ≡ doneIn (port c (restore b))
+      go zero z =
+          rw (code-is b, z, restore-accepted b c z)
+          (λ i. record { code = 0; beside = b; bytes = sym (read-accepted b z) i })
+      go (suc n) z =
+          let r = restore-unchanged b c (not-suc z) in
+          rw (code-is b, z, r .2)
+          (λ i. record { code = (sym z ∙ r .1) i; beside = b; bytes = ap (λ (t : Bool). cond t b (image c)) (ne-eqb (suc n) 0 (not-suc refl)) i })
+
+  done : (d : Call Event) → doneBy (image c) d ≡ doneIn (port c d)
+  done (event (frame key bed)) = λ i. record { code = left c v (frame key bed) .0 i; beside = []; bytes = left c v (frame key bed) .1 i }
+  done (event (settings a)) = λ i. record { code = left c v (settings a) .0 i; beside = []; bytes = left c v (settings a) .1 i }
+  done (event (reset n)) = λ i. record { code = left c v (reset n) .0 i; beside = []; bytes = left c v (reset n) .1 i }
+  done (save l) = save-done l
+  done (restore b) = restore-done b
+
 -- ---- over lists
 
-abbrev chainAfter : Log Event → Chain
-chainAfter es = after rules (eventCalls rules) port es
+module _ (c : Chain) (v : Valid c) where
+  valid : (cs : Log (Call Event)) → Valid (chainFrom c cs)
+  valid cs = from-valid rules images port all-laws c cs v
 
-valid : (es : Log Event) → Valid (chainAfter es)
-valid es = events-valid rules port laws es
+  held : (cs : Log (Call Event)) → lentFrom (image c) cs ≡ image (chainFrom c cs)
+  unfolding lentFrom from
+  held empty = refl
+  held (cs ▹ d) = ap (λ (b : List ℕ). doneBy b d .bytes) (held cs) ∙ ap (λ (t : Done). t .bytes) (done (chainFrom c cs) (valid cs) d)
 
-held : (es : Log Event) → lentAfter es ≡ image (chainAfter es)
-unfolding lentAfter from
-held empty = refl
-held (es ▹ e) = ap (λ (b : List ℕ). leftBy b e .bytes) (held es) ∙ left (chainAfter es) (valid es) e .1
+  next-done : (cs : Log (Call Event)) (d : Call Event) → doneBy (lentFrom (image c) cs) d ≡ doneIn (port (chainFrom c cs) d)
+  next-done cs d = ap (λ (b : List ℕ). doneBy b d) (held cs) ∙ done (chainFrom c cs) (valid cs) d
+
+  next-answer : (cs : Log (Call Event)) (key bed : List Float) (a : List ℕ) (x : Answer) → port (chainFrom c cs) (event (frame key bed)) .seen .reply ≡ passed (answer (shown x))
+      → frameIn (lentFrom (image c) cs) a key bed .words ≡ answerWords x
+  next-answer cs key bed a x p =
+      ap (λ (b : List ℕ). frameIn b a key bed .words) (held cs)
+      ∙ ap (λ (t : Told). t .words) (frame-on (chainFrom c cs) (valid cs) a key bed)
+      ∙ frame-words (chainFrom c cs) (valid cs) a (frameOf (chainFrom c cs) key bed) x p
 
 pub lent-laws : LentLaws
 lent-laws = record {
   fresh = λ b n. λ i. record { code = ap codeOf (passed-right b n) i; bytes = save-right freshOf b n i };
+  refused = λ b e n. closed b n e;
+  refused-frame = λ b a key bed n. closed-frame b n a key bed;
+  means = λ b z. accepted-image b (sym (code-is b) ∙ z);
   bytes = held;
-  codes = λ es e. ap (λ (b : List ℕ). leftBy b e .code) (held es) ∙ left (chainAfter es) (valid es) e .0;
-  answers = λ es key bed a x p.
-      ap (λ (b : List ℕ). frameIn b a key bed .words) (held es)
-      ∙ ap (λ (t : Told). t .words) (frame-on (chainAfter es) (valid es) a key bed)
-      ∙ frame-words (chainAfter es) (valid es) a (frameOf (chainAfter es) key bed) x p;
+  accepted = λ c v cs. ap codeIn (held c v cs) ∙ image-code (chainFrom c cs) (valid c v cs);
+  calls = next-done;
+  answers = next-answer;
 }
