@@ -369,7 +369,6 @@ impl Chain {
 
     // Key strand and bed strand, over the samples as f64.
     fn strands(self, xs: &[f64; 480], ys: &[f64; 480]) -> Strands
-        requires { ⌜ (length (now xs) ≡ frameLength) × (length (now ys) ≡ frameLength) ⌝ }
         ensures { λ r. ⌜ r ≡ strandsOf self (now (xs .entry)) (now (ys .entry)) ⌝ }
     {
         let settings = self.settings;

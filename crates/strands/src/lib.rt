@@ -213,7 +213,7 @@ impl BandedPairs {
 }
 
 // The level's filters over a frame, both strands in one loop, so that their steps go side by side.
-fn weigh(key: Weighing, bed: Weighing, xs: &[f64; 480], ys: &[f64; 480]) -> WeighedPairs
+fn weigh(key: Weighing, bed: Weighing, xs: &[f64], ys: &[f64]) -> WeighedPairs
     requires { ⌜ (length (now xs) ≡ frameLength) × (length (now ys) ≡ frameLength) ⌝ }
     ensures { λ r. ⌜ r ≡ weighedPairs (weighedOf key bed (now (xs .entry)) (now (ys .entry))) ⌝ }
 {
@@ -230,7 +230,7 @@ fn weigh(key: Weighing, bed: Weighing, xs: &[f64; 480], ys: &[f64; 480]) -> Weig
 }
 
 // The level's filters of a strand whose shelf's output is v throughout, and beside them those of the other strand.
-fn weigh_beside(v: f64, held: Weighing, other: Weighing, xs: &[f64; 480], ys: &[f64; 480]) -> Beside
+fn weigh_beside(v: f64, held: Weighing, other: Weighing, xs: &[f64], ys: &[f64]) -> Beside
     requires { ⌜ (length (now xs) ≡ frameLength) × (length (now ys) ≡ frameLength) ⌝ }
     ensures { λ r. ⌜ r ≡ besideOf v held other (now (xs .entry)) (now (ys .entry)) ⌝ }
 {
@@ -248,7 +248,6 @@ fn weigh_beside(v: f64, held: Weighing, other: Weighing, xs: &[f64; 480], ys: &[
 // The level's filters over a frame. In silence a shelf's numbers end below the smallest normal number, where the processor is slow, and stay:
 // then they aren't computed.
 fn weigh_frame(key: Weighing, bed: Weighing, xs: &[f64; 480], ys: &[f64; 480]) -> WeighedPairs
-    requires { ⌜ (length (now xs) ≡ frameLength) × (length (now ys) ≡ frameLength) ⌝ }
     ensures { λ r. ⌜ r ≡ weighedPairs (weighedOf key bed (now (xs .entry)) (now (ys .entry))) ⌝ }
 {
     let x = xs[0];
@@ -274,10 +273,10 @@ fn weigh_frame(key: Weighing, bed: Weighing, xs: &[f64; 480], ys: &[f64; 480]) -
 fn band(
     key: Bands,
     bed: Bands,
-    xs: &[f64; 480],
-    ys: &[f64; 480],
-    out: &mut [f64; 480],
-    also: &mut [f64; 480],
+    xs: &[f64],
+    ys: &[f64],
+    out: &mut [f64],
+    also: &mut [f64],
 ) -> BandedPairs
     requires { ⌜ (length (now xs) ≡ frameLength) × (length (now ys) ≡ frameLength) × (length (now out) ≡ frameLength) × (length (now also) ≡ frameLength) ⌝ }
     ensures { λ r. ⌜ (r ≡ bandedPairs (bandedOf key bed (now (xs .entry)) (now (ys .entry)))) × (now (out .exit) ≡ outputsOf key (now (xs .entry)))
@@ -306,7 +305,6 @@ fn band_frame(
     out: &mut [f64; 480],
     also: &mut [f64; 480],
 ) -> BandedPairs
-    requires { ⌜ (length (now xs) ≡ frameLength) × (length (now ys) ≡ frameLength) × (length (now out) ≡ frameLength) × (length (now also) ≡ frameLength) ⌝ }
     ensures { λ r. ⌜ (r ≡ bandedPairs (bandedOf key bed (now (xs .entry)) (now (ys .entry)))) × (now (out .exit) ≡ outputsOf key (now (xs .entry)))
         × (now (also .exit) ≡ outputsOf bed (now (ys .entry))) ⌝ }
 {
@@ -323,10 +321,10 @@ fn band_frame(
 fn filter(
     weighed: Weighed,
     banded: Banded,
-    xs: &[f64; 480],
-    ys: &[f64; 480],
-    out: &mut [f64; 480],
-    also: &mut [f64; 480],
+    xs: &[f64],
+    ys: &[f64],
+    out: &mut [f64],
+    also: &mut [f64],
 ) -> Filtered
     requires { ⌜ (length (now xs) ≡ frameLength) × (length (now ys) ≡ frameLength) × (length (now out) ≡ frameLength) × (length (now also) ≡ frameLength) ⌝ }
     ensures { λ r. ⌜ (r ≡ filteredOf weighed banded (now (xs .entry)) (now (ys .entry))) × (now (out .exit) ≡ outputsOf (banded .key) (now (xs .entry)))
@@ -356,8 +354,8 @@ fn filter(
     }
 }
 
-// All filters over a frame; where a strand's samples are all the same, it may be at rest. All four arrays have 480 places: the chain shows it,
-// whose samples come from `detector::samples` and whose outputs begin as `no_outputs`.
+// All filters over a frame; where a strand's samples are all the same, it may be at rest. The pitch pair's output for each sample goes to `out`
+// and `also`.
 pub fn filter_frame(
     weighed: Weighed,
     banded: Banded,
@@ -366,7 +364,6 @@ pub fn filter_frame(
     out: &mut [f64; 480],
     also: &mut [f64; 480],
 ) -> Filtered
-    requires { ⌜ (length (now xs) ≡ frameLength) × (length (now ys) ≡ frameLength) × (length (now out) ≡ frameLength) × (length (now also) ≡ frameLength) ⌝ }
     ensures { λ r. ⌜ (r ≡ filteredOf weighed banded (now (xs .entry)) (now (ys .entry))) × (now (out .exit) ≡ outputsOf (banded .key) (now (xs .entry)))
         × (now (also .exit) ≡ outputsOf (banded .bed) (now (ys .entry))) ⌝ }
 {

@@ -31,13 +31,15 @@ abbrev μ-loop : tie.MeasureT-loop
 μ-loop xs ys out₀ also₀ k₀ b₀ i₀ out also k b i = 480 - i
 
 loop-holds : tie.Need-loop-holds Inv-loop μ-loop
-loop-holds c = (c .pre .0, c .pre .1, c .pre .2, c .pre .3, omega arith, refl, refl, refl, refl)
+loop-holds c =
+    let p = c .before .before .before .before .pre in
+    (p .0, p .1, p .2, p .3, omega arith, refl, refl, refl, refl)
 
 mul-step : tie.Need-mul-step Inv-loop μ-loop
 mul-step c = search needs
 
-element-copy-out-step : tie.Need-element-copy-out-step Inv-loop μ-loop
-element-copy-out-step c = search needs
+shared-slice-read-step : tie.Need-shared-slice-read-step Inv-loop μ-loop
+shared-slice-read-step c = search needs
 
 step-requires : tie.Need-step-requires Inv-loop μ-loop
 step-requires c κs = search needs
@@ -45,8 +47,8 @@ step-requires c κs = search needs
 mul-step-2 : tie.Need-mul-step-2 Inv-loop μ-loop
 mul-step-2 c = search needs
 
-element-copy-out-step-2 : tie.Need-element-copy-out-step-2 Inv-loop μ-loop
-element-copy-out-step-2 c = search needs
+shared-slice-read-step-2 : tie.Need-shared-slice-read-step-2 Inv-loop μ-loop
+shared-slice-read-step-2 c = search needs
 
 step-requires-2 : tie.Need-step-requires-2 Inv-loop μ-loop
 step-requires-2 c κs = search needs
@@ -54,14 +56,14 @@ step-requires-2 c κs = search needs
 mul-out : tie.Need-mul-out Inv-loop μ-loop
 mul-out c = search needs
 
-element-write-out : tie.Need-element-write-out Inv-loop μ-loop
-element-write-out c = search needs
+slice-write-out : tie.Need-slice-write-out Inv-loop μ-loop
+slice-write-out c = search needs
 
 mul-also : tie.Need-mul-also Inv-loop μ-loop
 mul-also c = search needs
 
-element-write-also : tie.Need-element-write-also Inv-loop μ-loop
-element-write-also c = search needs
+slice-write-also : tie.Need-slice-write-also Inv-loop μ-loop
+slice-write-also c = search needs
 
 add-i : tie.Need-add-i Inv-loop μ-loop
 add-i c = search needs
@@ -72,7 +74,7 @@ loop-less c = search needs
 loop-again : tie.Need-loop-again Inv-loop μ-loop
 loop-again c =
     let l = c .before .before .before .before .before .loop in
-    let a = c .before .before .before .before .before .before .args in
+    let a = c .before .before .before .before .before .before .before .before .before .before .args in
     let s = c .before .before .step in
     let r = c .step2 in (
       l .inv .0,
@@ -89,11 +91,17 @@ loop-again c =
 pairs-requires : tie.Need-pairs-requires Inv-loop μ-loop
 pairs-requires c κs = search needs
 
+same-length : tie.Need-same-length Inv-loop μ-loop
+same-length c = omega (arith, c .before .before .loop .inv .2, c .before .before .before .before .before .before .before .pre .2)
+
+same-length-2 : tie.Need-same-length-2 Inv-loop μ-loop
+same-length-2 c = omega (arith, c .before .before .loop .inv .3, c .before .before .before .before .before .before .before .pre .3)
+
 returns : tie.Need-returns Inv-loop μ-loop
 unfolding bandedOf
 returns c =
     let l = c .before .before .loop in
-    let a = c .before .before .before .args in
+    let a = c .before .before .before .before .before .before .before .args in
     let k = fold-end stepOf (l .k) (a .xs .now) (l .i) (omega arith) ∙ l .inv .5 in
     let b = fold-end stepOf (l .b) (a .ys .now) (l .i) (omega arith) ∙ l .inv .6 in (
       c .pairs .ensures ∙ (λ i. bandedPairs (record { key = k i; bed = b i })),
@@ -109,17 +117,19 @@ band-spec =
     μ-loop
     loop-holds
     mul-step
-    element-copy-out-step
+    shared-slice-read-step
     step-requires
     mul-step-2
-    element-copy-out-step-2
+    shared-slice-read-step-2
     step-requires-2
     mul-out
-    element-write-out
+    slice-write-out
     mul-also
-    element-write-also
+    slice-write-also
     add-i
     loop-less
     loop-again
     pairs-requires
+    same-length
+    same-length-2
     returns)

@@ -35,20 +35,20 @@ abbrev μ-loop : tie.MeasureT-loop
 
 loop-holds : tie.Need-loop-holds Inv-loop μ-loop
 loop-holds c =
-    let p = c .before .before .before .before .pre in
+    let p = c .before .before .before .before .before .before .before .before .pre in
     (p .0, p .1, p .2, p .3, omega arith, refl, refl, refl, refl, refl, refl)
 
 mul-x : tie.Need-mul-x Inv-loop μ-loop
 mul-x c = search needs
 
-element-copy-out-x : tie.Need-element-copy-out-x Inv-loop μ-loop
-element-copy-out-x c = search needs
+shared-slice-read-x : tie.Need-shared-slice-read-x Inv-loop μ-loop
+shared-slice-read-x c = search needs
 
 mul-y : tie.Need-mul-y Inv-loop μ-loop
 mul-y c = search needs
 
-element-copy-out-y : tie.Need-element-copy-out-y Inv-loop μ-loop
-element-copy-out-y c = search needs
+shared-slice-read-y : tie.Need-shared-slice-read-y Inv-loop μ-loop
+shared-slice-read-y c = search needs
 
 step-requires : tie.Need-step-requires Inv-loop μ-loop
 step-requires c κs = search needs
@@ -65,14 +65,14 @@ step-requires-4 c κs = search needs
 mul-out : tie.Need-mul-out Inv-loop μ-loop
 mul-out c = search needs
 
-element-write-out : tie.Need-element-write-out Inv-loop μ-loop
-element-write-out c = search needs
+slice-write-out : tie.Need-slice-write-out Inv-loop μ-loop
+slice-write-out c = search needs
 
 mul-also : tie.Need-mul-also Inv-loop μ-loop
 mul-also c = search needs
 
-element-write-also : tie.Need-element-write-also Inv-loop μ-loop
-element-write-also c = search needs
+slice-write-also : tie.Need-slice-write-also Inv-loop μ-loop
+slice-write-also c = search needs
 
 add-i : tie.Need-add-i Inv-loop μ-loop
 add-i c = search needs
@@ -83,7 +83,7 @@ loop-less c = search needs
 loop-again : tie.Need-loop-again Inv-loop μ-loop
 loop-again c =
     let l = c .before .before .before .before .before .before .before .loop in
-    let a = c .before .before .before .before .before .before .before .before .before .before .before .before .args in
+    let a = c .before .before .before .before .before .before .before .before .before .before .before .before .before .before .before .before .args in
     let less = c .before .before .before .before .before .before .loop-test .taken in
     let v = c .before .before .before .step in
     let w = c .before .before .step2 in
@@ -108,11 +108,17 @@ pairs-requires c κs = search needs
 pairs-requires-2 : tie.Need-pairs-requires-2 Inv-loop μ-loop
 pairs-requires-2 c κs = search needs
 
+same-length : tie.Need-same-length Inv-loop μ-loop
+same-length c = omega (arith, c .before .before .before .loop .inv .2, c .before .before .before .before .before .before .before .before .before .before .before .before .pre .2)
+
+same-length-2 : tie.Need-same-length-2 Inv-loop μ-loop
+same-length-2 c = omega (arith, c .before .before .before .loop .inv .3, c .before .before .before .before .before .before .before .before .before .before .before .before .pre .3)
+
 returns : tie.Need-returns Inv-loop μ-loop
 unfolding filteredOf weighedOf bandedOf
 returns c =
     let l = c .before .before .before .loop in
-    let a = c .before .before .before .before .before .before .before .before .args in
+    let a = c .before .before .before .before .before .before .before .before .before .before .before .before .args in
     let v = fold-end weighing.stepOf (l .v) (a .xs .now) (l .i) (omega arith) ∙ l .inv .5 in
     let w = fold-end weighing.stepOf (l .w) (a .ys .now) (l .i) (omega arith) ∙ l .inv .6 in
     let k = fold-end stepOf (l .p) (a .xs .now) (l .i) (omega arith) ∙ l .inv .7 in
@@ -132,20 +138,22 @@ filter-spec =
     μ-loop
     loop-holds
     mul-x
-    element-copy-out-x
+    shared-slice-read-x
     mul-y
-    element-copy-out-y
+    shared-slice-read-y
     step-requires
     step-requires-2
     step-requires-3
     step-requires-4
     mul-out
-    element-write-out
+    slice-write-out
     mul-also
-    element-write-also
+    slice-write-also
     add-i
     loop-less
     loop-again
     pairs-requires
     pairs-requires-2
+    same-length
+    same-length-2
     returns)

@@ -20,13 +20,13 @@ abbrev μ-loop : tie.MeasureT-loop
 μ-loop xs ys k₀ b₀ i₀ k b i = 480 - i
 
 loop-holds : tie.Need-loop-holds Inv-loop μ-loop
-loop-holds c = (c .pre .0, c .pre .1, omega arith, refl, refl)
+loop-holds c = (c .before .before .pre .0, c .before .before .pre .1, omega arith, refl, refl)
 
 mul-step : tie.Need-mul-step Inv-loop μ-loop
 mul-step c = search needs
 
-element-copy-out-step : tie.Need-element-copy-out-step Inv-loop μ-loop
-element-copy-out-step c = search needs
+shared-slice-read-step : tie.Need-shared-slice-read-step Inv-loop μ-loop
+shared-slice-read-step c = search needs
 
 step-requires : tie.Need-step-requires Inv-loop μ-loop
 step-requires c κs = search needs
@@ -34,8 +34,8 @@ step-requires c κs = search needs
 mul-step-2 : tie.Need-mul-step-2 Inv-loop μ-loop
 mul-step-2 c = search needs
 
-element-copy-out-step-2 : tie.Need-element-copy-out-step-2 Inv-loop μ-loop
-element-copy-out-step-2 c = search needs
+shared-slice-read-step-2 : tie.Need-shared-slice-read-step-2 Inv-loop μ-loop
+shared-slice-read-step-2 c = search needs
 
 step-requires-2 : tie.Need-step-requires-2 Inv-loop μ-loop
 step-requires-2 c κs = search needs
@@ -49,7 +49,7 @@ loop-less c = search needs
 loop-again : tie.Need-loop-again Inv-loop μ-loop
 loop-again c =
     let l = c .before .before .before .before .before .loop in
-    let a = c .before .before .before .before .before .before .args in
+    let a = c .before .before .before .before .before .before .before .before .args in
     let s = c .before .before .step in
     let r = c .step2 in (
       l .inv .0,
@@ -66,7 +66,7 @@ returns : tie.Need-returns Inv-loop μ-loop
 unfolding weighedOf
 returns c =
     let l = c .before .before .loop in
-    let a = c .before .before .before .args in
+    let a = c .before .before .before .before .before .args in
     let k = fold-end stepOf (l .k) (a .xs .now) (l .i) (omega arith) ∙ l .inv .3 in
     let b = fold-end stepOf (l .b) (a .ys .now) (l .i) (omega arith) ∙ l .inv .4 in
     c .pairs .ensures ∙ (λ i. weighedPairs (record { key = k i; bed = b i }))
@@ -79,10 +79,10 @@ weigh-spec =
     μ-loop
     loop-holds
     mul-step
-    element-copy-out-step
+    shared-slice-read-step
     step-requires
     mul-step-2
-    element-copy-out-step-2
+    shared-slice-read-step-2
     step-requires-2
     add-i
     loop-less

@@ -24,7 +24,7 @@ abbrev μ-loop : tie.MeasureT-loop
 μ-loop v xs ys h₀ o₀ i₀ h o i = 480 - i
 
 loop-holds : tie.Need-loop-holds Inv-loop μ-loop
-loop-holds c = (c .pre .0, c .pre .1, omega arith, refl, refl)
+loop-holds c = (c .before .before .pre .0, c .before .before .pre .1, omega arith, refl, refl)
 
 held-step-requires : tie.Need-held-step-requires Inv-loop μ-loop
 held-step-requires c κs = search needs
@@ -32,8 +32,8 @@ held-step-requires c κs = search needs
 mul-step : tie.Need-mul-step Inv-loop μ-loop
 mul-step c = search needs
 
-element-copy-out-step : tie.Need-element-copy-out-step Inv-loop μ-loop
-element-copy-out-step c = search needs
+shared-slice-read-step : tie.Need-shared-slice-read-step Inv-loop μ-loop
+shared-slice-read-step c = search needs
 
 step-requires : tie.Need-step-requires Inv-loop μ-loop
 step-requires c κs = search needs
@@ -47,7 +47,7 @@ loop-less c = search needs
 loop-again : tie.Need-loop-again Inv-loop μ-loop
 loop-again c =
     let l = c .before .before .before .before .loop in
-    let a = c .before .before .before .before .before .args in
+    let a = c .before .before .before .before .before .before .before .args in
     let s = c .before .before .held-step in
     let r = c .step in (
       l .inv .0,
@@ -61,7 +61,7 @@ returns : tie.Need-returns Inv-loop μ-loop
 unfolding besideOf heldRun
 returns c =
     let l = c .before .loop in
-    let a = c .before .before .args in
+    let a = c .before .before .before .before .args in
     let h = fold-end (held (a .v)) (l .h) (a .xs .now) (l .i) (omega arith) ∙ l .inv .3 in
     let o = fold-end stepOf (l .o) (a .ys .now) (l .i) (omega arith) ∙ l .inv .4 in
     λ i. record { held = h i; other = o i }
@@ -69,4 +69,4 @@ returns c =
 pub weigh-beside-spec : {M : Type 1} → statement M
 weigh-beside-spec =
     tie.close
-    (tie.spec Inv-loop μ-loop loop-holds held-step-requires mul-step element-copy-out-step step-requires add-i loop-less loop-again returns)
+    (tie.spec Inv-loop μ-loop loop-holds held-step-requires mul-step shared-slice-read-step step-requires add-i loop-less loop-again returns)

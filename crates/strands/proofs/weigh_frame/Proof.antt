@@ -40,8 +40,8 @@ returns : tie.Need-returns
 unfolding weighedOf
 returns c =
     let s = c .before .before .before .weigh-beside in
-    let v = c .before .before .before .before .shelf-output in
-    let d = c .before .before .before .before .before in
+    let v = c .before .before .before .before .before .before .shelf-output in
+    let d = c .before .before .before .before .before .before .before in
     let a = d .before .before .before .before .before .args in
     let p = beside-run (s .result) (v .result) (a .key) (a .bed) (a .xs .now) (a .ys .now) (getD (a .xs .now) 0 nan) (s .ensures) (v .ensures) (d .before .rests .ensures .1 (subst T (sym (d .if1 .taken)) tt)) in
     c .pairs .ensures ∙ (λ i. weighedPairs (record { key = p .0 i; bed = p .1 i }))
@@ -62,8 +62,8 @@ returns-2 : tie.Need-returns-2
 unfolding weighedOf
 returns-2 c =
     let s = c .before .before .before .weigh-beside2 in
-    let v = c .before .before .before .before .shelf-output2 in
-    let d = c .before .before .before .before .before in
+    let v = c .before .before .before .before .before .before .shelf-output2 in
+    let d = c .before .before .before .before .before .before .before in
     let a = d .before .before .before .before .before .before .before .before .args in
     let p = beside-run (s .result) (v .result) (a .bed) (a .key) (a .ys .now) (a .xs .now) (getD (a .ys .now) 0 nan) (s .ensures) (v .ensures) (d .before .rests2 .ensures .1 (subst T (sym (d .if2 .taken)) tt)) in
     c .pairs2 .ensures ∙ (λ i. weighedPairs (record { key = p .1 i; bed = p .0 i }))

@@ -24,9 +24,7 @@ no-outputs-requires-2 : tie.Need-no-outputs-requires-2
 no-outputs-requires-2 c κs = search needs
 
 filter-frame-requires : tie.Need-filter-frame-requires
-filter-frame-requires c κs =
-    let w = c .before .before .before .before .before .before .before .before .before .before .before .before .before .before .before .before .before .before .before .pre in
-    (w .0, w .1, c .before .before .before .no-outputs .ensures, c .before .before .no-outputs2 .ensures)
+filter-frame-requires c κs = search needs
 
 finished-requires : tie.Need-finished-requires
 finished-requires c κs = search needs
