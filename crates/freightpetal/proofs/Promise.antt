@@ -15,7 +15,7 @@ use Rattle.chain.proofs.RustState.{rust-stores}
 use Rattle.chain.proofs.AgreesLoudness.{loudness-agrees}
 use Rattle.image.specs.Image.{image, refusesImage, restoreOf}
 use Rattle.image.specs.Port.{images, port}
-use Rattle.image.proofs.Laws.{read-valid, read-accepted, restore-accepted, restore-image, same-image, one-word-refused}
+use Rattle.image.proofs.Laws.{read-valid, read-accepted, restore-accepted, restore-image, same-image, one-word-refused, accepted-word-refused}
 use Rattle.image.proofs.Foreign as foreign
 use Rattle.image.proofs.Plug.{all-laws}
 use Rattle.freightpetal.specs.Images.{ImageLaws}
@@ -33,6 +33,7 @@ image-laws = record {
   accepted = accepted;
   one-image = same-image;
   one-word = one-word-refused;
+  accepted-one-word = accepted-word-refused;
   foreign-unknown = foreign.foreign-unknown;
   foreign-words = foreign.foreign-words;
 }

@@ -29,8 +29,10 @@ pub record ImageLaws : Type 0 where
   pub accepted : (old : Chain) (b : List ℕ) → refusesImage b ≡ 0 → Valid (restoreOf old b .chain) × (image (restoreOf old b .chain) ≡ b)
   -- two valid chains have one image exactly where they are equal
   pub one-image : (s t : Chain) → Valid s → Valid t → (image s ≡ image t) ↔ (s ≡ t)
-  -- a change within a single word of an accepted image is caught, with 7
-  pub one-word : (k : ℕ) (b b′ : List ℕ) → OneWord k b b′ → refusesImage b ≡ 0 → refusesImage b′ ≡ numberOf BadCheck
+  -- a change within a single word is always caught, with 7: of any bytes of the right length whose checks hold, also of a foreign image,
+  pub one-word : (k : ℕ) (b b′ : List ℕ) → OneWord k b b′ → length b ≡ imageBytes → firstBad b ≡ blockCount → refusesImage b′ ≡ numberOf BadCheck
+  -- and so of an accepted one
+  pub accepted-one-word : (k : ℕ) (b b′ : List ℕ) → OneWord k b b′ → refusesImage b ≡ 0 → refusesImage b′ ≡ numberOf BadCheck
   -- bytes of the right length whose checks hold are refused with 8 exactly where no valid chain has these words,
   pub foreign-unknown : (b : List ℕ) → Bytes b → length b ≡ imageBytes → firstBad b ≡ blockCount
       → (refusesImage b ≡ numberOf ForeignImage) ↔ ((c : Chain) × Valid c × (wordsOf c ≡ payloadOf b) → ⊥)

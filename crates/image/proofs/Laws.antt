@@ -4,7 +4,7 @@ use mathlib.Core.Bool.{Bool, true, false, not, cond}
 use mathlib.Core.List.{List, [], _∷_}
 use Prim.Native.Nat.{ℕ, _/_}
 use native.Mathlib.Omega.{arith}
-use borrow.Author.Tests.{eq-eqb, ne-eqb, eqb-true}
+use borrow.Author.Tests.{eq-eqb, ne-eqb}
 use lib.Dec.{eqb}
 use lib.ListN.{length}
 use Rattle.blocks.specs.Lists.{Words}
@@ -24,7 +24,7 @@ use Rattle.chain.specs.Chain.{changed, unchanged}
 use Rattle.chain.specs.Valid.{Valid}
 use Rattle.image.specs.Layout.{blockCount, imageBytes, payloadWords}
 use Rattle.image.specs.Chain.{strandSettings, duck, numbers, settings, loops, chain}
-use Rattle.image.specs.Image.{wordsOf, image, readAs, ours, refusesImage, saveVerdict, savedIn, restoreOf}
+use Rattle.image.specs.Image.{wordsOf, image, readAs, ours, rightLength, rightChecks, refusesImage, saveVerdict, savedIn, restoreOf}
 use Rattle.image.specs.Port.{replyOf, onSave, onRestore, refusesSave}
 use Rattle.strand_image.specs.Strand.{strand, front, state, filters, powers, decimated, floor, smoothed, window, minima, history, decision, counts, power}
 use Rattle.image.proofs.Valid.{chain-valid, valid-chain}
@@ -83,25 +83,30 @@ abbrev after : Chain → Chain → Bool → Bool → Bool → Changed
 after old new x y z = cond x (cond y (cond z (changed new) (unchanged old ForeignImage)) (unchanged old BadCheck)) (unchanged old WrongLength)
 
 module _ (b : List ℕ) where
-  -- what is accepted passes all three
-  accepted : refusesImage b ≡ 0 → (length b ≡ imageBytes) × (firstBad b ≡ blockCount) × (ours b ≡ true)
-  unfolding refusesImage
-  accepted = go (eqb (length b) imageBytes) (eqb (firstBad b) blockCount) (ours b) refl refl refl
-    where
-      go : (x y z : Bool) → eqb (length b) imageBytes ≡ x → eqb (firstBad b) blockCount ≡ y → ours b ≡ z → ruling x y z ≡ 0
-          → (length b ≡ imageBytes) × (firstBad b ≡ blockCount) × (ours b ≡ true)
-      go true true true p q r e = (eqb-true (length b) imageBytes p, eqb-true (firstBad b) blockCount q, r)
-      go true true false p q r e = absurd (omega arith)
-      go true false z p q r e = absurd (omega arith)
-      go false y z p q r e = absurd (omega arith)
-
   -- whatever the bytes, a valid chain is read
   pub read-valid : Valid (readAs b)
   read-valid = chain-valid (readAs b) (unfold readAs in chain .sound (payloadOf b) 0)
 
+  accepted-ours : refusesImage b ≡ 0 → ours b ≡ true
+  unfolding refusesImage
+  accepted-ours = go (rightLength b) (rightChecks b) (ours b) refl
+    where
+      go : (x y z : Bool) → ours b ≡ z → ruling x y z ≡ 0 → ours b ≡ true
+      go true true true q e = q
+      go true true false q e = absurd (omega arith)
+      go true false z q e = absurd (omega arith)
+      go false y z q e = absurd (omega arith)
+
   -- accepted bytes are the image of the chain that is read
   pub read-accepted : refusesImage b ≡ 0 → image (readAs b) ≡ b
-  read-accepted e = same-eq (image (readAs b)) b (unfold ours in accepted e .2)
+  read-accepted e = same-eq (image (readAs b)) b (unfold ours in accepted-ours e)
+
+  -- so their length is an image's, and their checks hold
+  pub accepted-length : refusesImage b ≡ 0 → length b ≡ imageBytes
+  accepted-length e = sym (ap length (read-accepted e)) ∙ image-length (readAs b) read-valid
+
+  pub accepted-checks : refusesImage b ≡ 0 → firstBad b ≡ blockCount
+  accepted-checks e = sym (ap firstBad (read-accepted e)) ∙ image-checks (readAs b) read-valid
 
   pub accepted-image : refusesImage b ≡ 0 → (s : Chain) × Valid s × (image s ≡ b)
   accepted-image e = (readAs b, read-valid, read-accepted e)
@@ -109,12 +114,13 @@ module _ (b : List ℕ) where
   module _ (old : Chain) where
     pub restore-accepted : refusesImage b ≡ 0 → restoreOf old b ≡ changed (readAs b)
     unfolding restoreOf
-    restore-accepted e = let a = accepted e in rw (eq-eqb (length b) imageBytes (a .0), eq-eqb (firstBad b) blockCount (a .1), a .2)
+    restore-accepted e =
+        rw (eq-eqb (length b) imageBytes (accepted-length e), eq-eqb (firstBad b) blockCount (accepted-checks e), accepted-ours e)
 
     -- a refusal changes nothing
     pub restore-unchanged : (refusesImage b ≡ 0 → ⊥) → (r : Refusal) × (refusesImage b ≡ numberOf r) × (restoreOf old b ≡ unchanged old r)
     unfolding refusesImage restoreOf
-    restore-unchanged = go (eqb (length b) imageBytes) (eqb (firstBad b) blockCount) (ours b)
+    restore-unchanged = go (rightLength b) (rightChecks b) (ours b)
       where
         go : (x y z : Bool) → (ruling x y z ≡ 0 → ⊥) → (r : Refusal) × (ruling x y z ≡ numberOf r) × (after old (readAs b) x y z ≡ unchanged old r)
         go true true true h = absurd (h refl)
@@ -129,16 +135,19 @@ module _ (b : List ℕ) where
 pub restore-image : (old c : Chain) → Valid c → restoreOf old (image c) ≡ changed c
 restore-image old c v = restore-accepted (image c) old (image-accepted c v) ∙ ap {B = Changed} changed (read-image c v)
 
--- ---- a change within a single word of an accepted image is always caught, with 7
+-- ---- a change within a single word of bytes whose checks hold is always caught, with 7
 
-module _ (k : ℕ) (b b′ : List ℕ) (one : OneWord k b b′) (e : refusesImage b ≡ 0) where
-  pub one-word-refused : refusesImage b′ ≡ numberOf BadCheck
+module _ (k : ℕ) (b b′ : List ℕ) (one : OneWord k b b′) where
+  pub one-word-refused : length b ≡ imageBytes → firstBad b ≡ blockCount → refusesImage b′ ≡ numberOf BadCheck
   unfolding refusesImage
-  one-word-refused =
-      let a = accepted b (unfold refusesImage in e) in
-      let f : firstBad b′ ≡ k / blockWords = one-word-caught k b b′ one blockCount (a .0) (a .1) in
-      let n : firstBad b′ ≡ blockCount → ⊥ = λ q. omega (arith, inside k b b′ one blockCount (a .0)) in
-      rw (eq-eqb (length b′) imageBytes (one .size ∙ a .0), ne-eqb (firstBad b′) blockCount n)
+  one-word-refused l e =
+      let f : firstBad b′ ≡ k / blockWords = one-word-caught k b b′ one blockCount l e in
+      let n : firstBad b′ ≡ blockCount → ⊥ = λ q. omega (arith, inside k b b′ one blockCount l) in
+      rw (eq-eqb (length b′) imageBytes (one .size ∙ l), ne-eqb (firstBad b′) blockCount n)
+
+  -- accepted bytes are such bytes
+  pub accepted-word-refused : refusesImage b ≡ 0 → refusesImage b′ ≡ numberOf BadCheck
+  accepted-word-refused e = one-word-refused (accepted-length b e) (accepted-checks b e)
 
 -- ---- the two calls as steps of a port
 
