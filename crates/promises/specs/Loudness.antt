@@ -10,12 +10,14 @@ use Rattle.level.specs.declared.Level.{Level}
 use Rattle.level.specs.Bs1770.{_⊘_, whole, fastCoeff}
 use Rattle.level.specs.Level.{freshOf, frameOf}
 use Rattle.level.specs.Deque.{meterOf, meterNext, meterReading}
-use Rattle.level.specs.Heard.{ReadsBs1770}
+use Rattle.level.specs.Heard.{ReadsBs1770, HearsSamples}
 use Rattle.level.specs.Valid.{Valid}
 
 pub record Loudness : Type 0 where
   -- after any list of frames of 480 samples, a frame reads what BS.1770 says of all samples heard
   pub bs1770 : ReadsBs1770
+  -- and where every sample is finite, what is heard are the samples themselves
+  pub samples : HearsSamples
   -- the record of a count and 300 places stands for the Rust's deque, in what is kept and in what is read
   pub deque : (l : Level) (xs : List Float) → length (l .powers .list) ≡ 300 → meterOf (frameOf l xs .level) ≡ meterNext (meterOf l) xs
   pub deque-reading : (l : Level) (xs : List Float) → length (l .powers .list) ≡ 300 → frameOf l xs .reading ≡ meterReading (meterOf l) xs

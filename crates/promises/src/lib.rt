@@ -5,7 +5,7 @@ ghost use Rattle.promises.specs.Voice.{Voice};
 ghost use Rattle.ratio.specs.Laws.{DuckerLaws};
 ghost use Rattle.promises.specs.Examples.{Examples};
 
-// The bounds of logarithm and power, and that the root is the nearest f64.
+// The bounds of logarithm and power, and that the root is the nearest f64 and `round` the nearest whole number.
 pub fn stand_ins()
     ensures { λ _. ⌜ StandIns ⌝ }
 {}
@@ -15,7 +15,7 @@ pub fn loudness()
     ensures { λ _. ⌜ Loudness ⌝ }
 {}
 
-// A strand answers as the Rust does.
+// A strand answers as the Rust does, and stays one that an image can hold.
 pub fn voice()
     ensures { λ _. ⌜ Voice ⌝ }
 {}
