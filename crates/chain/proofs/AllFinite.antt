@@ -6,7 +6,6 @@ use mathlib.Core.List.{List, [], _∷_, _++_}
 use lib.Dec.{T, ltb}
 use lib.ListN.{getD}
 use lib.Ieee.{Float, Format, binary32, binary64, ofBits}
-use lib.Ieee.Fits.{and-i}
 use lib.Ieee.Scale.{finite}
 use borrow.Author.Tests.{ltb-true, ltb-false}
 use Rattle.float.specs.Valid.{Num}
@@ -24,27 +23,17 @@ use Rattle.vad.specs.declared.SpeechPower.{SpeechPower}
 use Rattle.vad.specs.declared.SpeechPower.the-variants as speech
 use Rattle.vad.specs.declared.Strand.{Strand}
 use Rattle.vad.specs.Valid as strand
+use Rattle.level.proofs.Finite.{Alls, none, _more_, _and_, all-finite}
+use Rattle.comis.specs.declared.loop_bank.Loops.{Loops}
+use Rattle.comis.specs.Loops.{LoopsStored}
 use Rattle.chain.specs.declared.Ranges.{Ranges}
+use Rattle.chain.specs.declared.Settings.{Settings}
+use Rattle.chain.specs.Settings.{imageRanges}
 use Rattle.chain.specs.declared.Chain.{Chain}
-use Rattle.chain.specs.Valid.{StrandSettingsValid, Valid}
-use Rattle.chain.specs.Numbers.{ofStrandSettings, ofLevel, ofSmoothed, ofDetector, ofPower, ofStrand, numbersOf}
+use Rattle.chain.specs.Valid.{StrandSettingsValid, SettingsValid, Valid}
+use Rattle.chain.specs.Numbers.{ofStrandSettings, ofSettings, ofLoops, ofLevel, ofSmoothed, ofDetector, ofPower, ofStrand, numbersOf}
 
 -- ---- lists
-
-infixr 5 _more_
-data Alls : List Float → Type 0 where
-  none : Alls []
-  _more_ : {x : Float} {xs : List Float} → T (finite x) → Alls xs → Alls (x ∷ xs)
-
-infixl 4 _and_
-_and_ : {xs ys : List Float} → Alls xs → Alls ys → Alls (xs ++ ys)
-none and k = k
-(h more hs) and k = h more (hs and k)
-
-all-finite : {xs : List Float} → Alls xs → T (allFinite xs)
-unfolding allFinite
-all-finite none = tt
-all-finite (_more_ {x} {xs} h hs) = and-i (finite x) (allFinite xs) h (all-finite hs)
 
 each : (blank : Float) (xs : List Float) → ((k : ℕ) → T (finite (getD xs k blank))) → Alls xs
 each blank [] h = none
@@ -79,12 +68,12 @@ smooth : (s : Smoothed) → detector.SmoothedValid s → Alls (ofSmoothed s)
 smooth smoothed.Unset v = none
 smooth (smoothed.At x) v = v .0 more none
 
-of-level : (l : Level) → level.Valid l → Alls (ofLevel l)
+pub of-level : (l : Level) → level.Valid l → Alls (ofLevel l)
 of-level l v =
     (v .shelf .z1 .0 more v .shelf .z2 .0 more v .«high_pass» .z1 .0 more v .«high_pass» .z2 .0 more v .fast .0 more none)
     and counted binary64 zero64 300 (l .powers .count) (l .powers .list) zero-finite (v .powers)
 
-of-detector : (d : FeatureDetector) → detector.Valid d → Alls (ofDetector d)
+pub of-detector : (d : FeatureDetector) → detector.Valid d → Alls (ofDetector d)
 of-detector d v =
     let f = v .filters in
     let least : Alls (d .floor .«window_min» ∷ []) = v .floor .«window_min» .0 more none in
@@ -96,20 +85,22 @@ of-detector d v =
     and counted binary64 zero64 8 (d .floor .minima .count) (d .floor .minima .list) zero-finite (v .floor .minima)
     and counted binary64 zero64 40 (d .history .count) (d .history .list) zero-finite (v .history)
 
-of-strand : (t : Strand) → strand.Valid t → Alls (ofStrand t)
+pub of-strand : (t : Strand) → strand.Valid t → Alls (ofStrand t)
 of-strand t v =
     of-level (t .level) (v .level)
     and of-detector (t .detector) (v .detector)
     and (v .decision .probability .0 more power (t .decision .power) (v .decision .power))
 
+pub of-settings : (s : Settings) → SettingsValid imageRanges s → Alls (ofSettings s)
+of-settings s v =
+    let d = v .duck in
+    strand-settings _ (s .key) (v .key)
+    and strand-settings _ (s .bed) (v .bed)
+    and (d .«target_lu» .number .0 more d .«overvoice_lu» .number .0 more d .«max_reduction_db» .number .0 more d .speed .number .0 more none)
+
+pub of-loops : (l : Loops) → LoopsStored l → Alls (ofLoops l)
+of-loops l v = v .slow .0 more v .mid .0 more v .fast .0 more v .hold .0 more none
+
 pub valid-finite : (c : Chain) → Valid c → T (allFinite (numbersOf c))
 unfolding numbersOf
-valid-finite c v =
-    let d = v .settings .duck in
-    all-finite
-    ((strand-settings _ (c .settings .key) (v .settings .key)
-    and strand-settings _ (c .settings .bed) (v .settings .bed)
-    and (d .«target_lu» .number .0 more d .«overvoice_lu» .number .0 more d .«max_reduction_db» .number .0 more d .speed .number .0 more none))
-    and of-strand (c .key) (v .key)
-    and of-strand (c .bed) (v .bed)
-    and (v .loops .slow .0 more v .loops .mid .0 more v .loops .fast .0 more v .loops .hold .0 more none))
+valid-finite c v = all-finite (of-settings (c .settings) (v .settings) and of-strand (c .key) (v .key) and of-strand (c .bed) (v .bed) and of-loops (c .loops) (v .loops))

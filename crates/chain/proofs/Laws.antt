@@ -36,11 +36,11 @@ number c (reset k) n = first-in-table (resetRows k) n
 -- ---- a frame, by its tests: lengths, samples, finite, full
 
 module _ (c : Chain) (w : Worked) where
-  abbrev rows : Bool → Bool → Bool → Bool → Bool → Bool → List Row
+  abbrev pub rows : Bool → Bool → Bool → Bool → Bool → Bool → List Row
   rows x y p q f g =
       (not x || not y) means ShortFrame ∷ (not p || not q) means BadSample ∷ not f means Runaway ∷ g means CounterFull ∷ []
 
-  abbrev framed : Bool → Bool → Bool → Bool → Bool → Bool → Framed
+  abbrev pub framed : Bool → Bool → Bool → Bool → Bool → Bool → Framed
   framed x y p q f g =
       cond (x && y) (cond (p && q) (cond f (cond g (refusedOf c CounterFull) (passedOf c w)) (refusedOf c Runaway)) (refusedOf c BadSample)) (refusedOf c ShortFrame)
 

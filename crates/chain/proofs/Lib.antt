@@ -4,6 +4,11 @@ pub mod Accepted
 pub mod Apart
 pub mod Valid
 pub mod Laws
+pub mod LevelTold
+pub mod DetectorTold
+pub mod StrandTold
+pub mod DuckTold
+pub mod Exact
 pub mod AgreesRust
 pub mod RustState
 pub mod AgreesLoudness

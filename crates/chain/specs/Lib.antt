@@ -4,6 +4,7 @@ pub mod Strands
 pub mod Valid
 pub mod Numbers
 pub mod Rules
+pub mod Runaway
 pub mod Rust
 pub mod RustState
 pub mod Loudness

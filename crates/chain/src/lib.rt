@@ -11,6 +11,7 @@ ghost use Rattle.chain.specs.Rust.{rust};
 ghost use Rattle.chain.specs.RustState.{stored};
 ghost use Rattle.chain.specs.Loudness.{loudness, ReadsBs1770};
 ghost use Rattle.chain.specs.Dead.{NoDeadUnits};
+ghost use Rattle.chain.specs.Runaway.{RunawayExact};
 ghost use Rattle.chain.specs.Settings.{callRanges, imageRanges, outsideOf, outsideStrand, outsideDuck, outsideSettings, zeroedOf, storedStrand, storedDuck, storedOf};
 ghost use Rattle.chain.specs.Chain.{freshStrand, freshDuck, freshSettings, freshOf, inputsOf, workOf, refusedOf, passedOf, judgedOf, frameOf, setOf, resetOf};
 use comis::loop_bank::Loops;
@@ -560,6 +561,11 @@ pub fn demands()
 // In every frame that passes the strands read, and the ducker is given, what BS.1770 says of all samples since a strand's last reset, unrounded.
 pub fn readings()
     ensures { λ _. ⌜ ReadsBs1770 ⌝ }
+{}
+
+// Refusal 4 of a frame: exactly where a number that it would store, answer or hand on isn't finite.
+pub fn runaway()
+    ensures { λ _. ⌜ RunawayExact ⌝ }
 {}
 
 // No unit that meets the demands answers one reduction to every frame, repeats its answer to the first, invents onsets, or refuses every frame.

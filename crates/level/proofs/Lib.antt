@@ -1,5 +1,6 @@
 pub mod All
 pub mod Finite
+pub mod Readings
 pub mod Sum
 pub mod Deque
 pub mod Filter

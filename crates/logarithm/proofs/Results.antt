@@ -22,7 +22,7 @@ use Rattle.logarithm.specs.Logarithm.{steps, cutOf, wholeLogOf, unitsLog
 use Rattle.logarithm.proofs.Squaring.{fraction-lt}
 use Rattle.logarithm.proofs.Bounds.{log-bounds}
 use Rattle.logarithm.proofs.Divided.{minus-small, quotient-value}
-use Rattle.logarithm.proofs.Small.{value-finite, mul-finite}
+use Rattle.logarithm.proofs.Small.{value-finite, value-small, mul-finite, mul-small}
 
 -- ---- a finite f64 above zero
 
@@ -107,12 +107,6 @@ module _ (k : ℕ) (x : Float) (t : T (fits binary64 x)) (h : lt zero64 x ≡ tr
       room : (k : ℕ) → k ≤ 42 → 1074 * 2 ^ k < 2 ^ 53
       room k l = let p : 2 ^ k ≤ 2 ^ 42 = pow-mono l in omega arith
 
--- a value a / c of at most p
-value-small : (x : Float) (s : Bool) (a c p : ℕ) → 0 < c → HasValue x s a c → a ≤ p * c → num x ≤ p * den x
-value-small nan s a c p C h l = absurd h
-value-small (inf u) s a c p C h l = absurd h
-value-small (fin u m e) s a c p C h l = le-of-mul-le-mul-right (le-trans (le-of-eq (h .1)) (le-trans (mul-le-mul-right (down e) l) (le-of-eq (mul-right-comm p c (down e))))) C
-
 -- ---- the logarithm to 24 bits
 
 module _ (x : Float) (t : T (fits binary64 x)) (h : lt zero64 x ≡ true) (f : T (finite x)) where
@@ -133,6 +127,11 @@ module _ (x : Float) (t : T (fits binary64 x)) (h : lt zero64 x ≡ true) (f : T
   pub log10-finite : T (finite (log10Of x))
   unfolding log10Of ofBits
   log10-finite = mul-finite binary64 (log2Of x) log10Two 11 0 log2-finite tt log2-small (lit≤ tt) (lit< tt)
+
+  -- of at most 4,096 in size
+  pub log10-small : num (log10Of x) ≤ 2 ^ 12 * den (log10Of x)
+  unfolding log10Of ofBits
+  log10-small = mul-small binary64 (log2Of x) log10Two 11 0 log2-finite tt log2-small (lit≤ tt) 12 (lit< tt) (lit≤ tt) (lit≤ tt)
 
 pub log2-fits : (x : Float) → T (fits binary64 (log2Of x))
 unfolding log2Of log2To log2At quotientOf
