@@ -212,7 +212,7 @@ impl BandedPairs {
     }
 }
 
-// The level's filters over a frame, both strands in one loop, so that their steps go side by side.
+// The level's filters over a frame, both strands in one loop, so that their steps go side by side. `weigh_frame` shows the lengths.
 fn weigh(key: Weighing, bed: Weighing, xs: &[f64], ys: &[f64]) -> WeighedPairs
     requires { ⌜ (length (now xs) ≡ frameLength) × (length (now ys) ≡ frameLength) ⌝ }
     ensures { λ r. ⌜ r ≡ weighedPairs (weighedOf key bed (now (xs .entry)) (now (ys .entry))) ⌝ }
@@ -229,7 +229,8 @@ fn weigh(key: Weighing, bed: Weighing, xs: &[f64], ys: &[f64]) -> WeighedPairs
     w.pairs()
 }
 
-// The level's filters of a strand whose shelf's output is v throughout, and beside them those of the other strand.
+// The level's filters of a strand whose shelf's output is v throughout, and beside them those of the other strand. `weigh_frame` shows the
+// lengths.
 fn weigh_beside(v: f64, held: Weighing, other: Weighing, xs: &[f64], ys: &[f64]) -> Beside
     requires { ⌜ (length (now xs) ≡ frameLength) × (length (now ys) ≡ frameLength) ⌝ }
     ensures { λ r. ⌜ r ≡ besideOf v held other (now (xs .entry)) (now (ys .entry)) ⌝ }
@@ -269,7 +270,7 @@ fn weigh_frame(key: Weighing, bed: Weighing, xs: &[f64; 480], ys: &[f64; 480]) -
     weigh(key, bed, xs, ys)
 }
 
-// The detector's filters likewise; the pitch pair's output for each sample goes to `out` and `also`.
+// The detector's filters likewise; the pitch pair's output for each sample goes to `out` and `also`. `band_frame` shows the lengths.
 fn band(
     key: Bands,
     bed: Bands,
@@ -317,7 +318,7 @@ fn band_frame(
     band(key, bed, xs, ys, out, also)
 }
 
-// The level's and the detector's filters in one loop: neither waits for the other.
+// The level's and the detector's filters in one loop: neither waits for the other. `filter_frame` shows the lengths.
 fn filter(
     weighed: Weighed,
     banded: Banded,
