@@ -1,8 +1,8 @@
 -- The detector's flag against the lists: what it says of the powers, the variance, the lags' products and the pitch outputs, and that it holds where
 -- they and the stored numbers are finite. The lags' flag is that of their products, by induction on the lags.
-use Prim.Native.Nat.{ℕ, zero, suc, _+_, _≤_}
+use Prim.Native.Nat.{ℕ, zero, suc, _+_}
 use native.Mathlib.Omega.{arith}
-use mathlib.Core.Path.{_≡_, refl, subst, sym, ap, _∙_}
+use mathlib.Core.Path.{_≡_, refl, subst, sym, _∙_}
 use mathlib.Core.Bool.{Bool, true, false, cond, _&&_}
 use mathlib.Core.List.{List, [], _∷_, _++_}
 use lib.Dec.{T, ltb}
@@ -10,18 +10,16 @@ use lib.ListN.{length, take, drop}
 use lib.Ieee.{Float, lt}
 use lib.Ieee.Fits.{and-i, and-l, and-r}
 use lib.Ieee.Scale.{finite}
-use Rattle.float.specs.Choice.{maxOf}
 use Rattle.root.specs.Root.{sqrtOf}
 use Rattle.sequence.specs.History.{latest, held}
-use Rattle.level.specs.Bs1770.{_⊗_, _⊘_, zero64}
+use Rattle.level.specs.Bs1770.{_⊗_, _⊘_}
 use Rattle.level.specs.Finite.{allFinite}
 use Rattle.detector.specs.declared.Ends.{Ends}
 use Rattle.detector.specs.declared.Bands.{Bands}
 use Rattle.detector.specs.declared.Floor.{Floor}
-use Rattle.detector.specs.declared.Voicing.{Voicing}
 use Rattle.detector.specs.declared.FeatureDetector.{FeatureDetector}
 use Rattle.detector.specs.declared.Heard.{Heard}
-use Rattle.detector.specs.Filters.{begun, runOf, outputsOf, samplesOf, eighths, keptOf, keepOf}
+use Rattle.detector.specs.Filters.{begun, runOf, outputsOf, eighths, keptOf, keepOf}
 use Rattle.detector.specs.Floor.{minimaOf, nextOf, storedOf, floorOf}
 use Rattle.detector.specs.Modulation.{historyOf, modulationOf}
 use Rattle.detector.specs.Voicing.{tiny, energyOf, correlationOf, energiesAt, withRatio, without, turnOf, lagOf, lagsOf, silent, endsOf, startOf, unevenOf, windowOf, voicingOf}

@@ -6,7 +6,6 @@ use lib.Dec.{T}
 use lib.Ieee.{Float, neg, ofBits}
 use lib.Ieee.Fits.{and-i, and-l, and-r}
 use lib.Ieee.Scale as scale
-use Rattle.float.specs.declared.Lufs.{Lufs}
 use Rattle.float.specs.Whole.{zero64}
 use Rattle.float.specs.Choice.{clampOf}
 use Rattle.level.specs.Bs1770.{_⊕_, _⊖_}
@@ -23,18 +22,18 @@ use Rattle.power.specs.Power.{expOf}
 use Rattle.comis.specs.declared.envelope.Coefficient.{Coefficient}
 use Rattle.comis.specs.MixState.{isDucking}
 use Rattle.comis.specs.Envelope.{timeConstant, gradual, exponent, coeffOf, processOf}
-use Rattle.comis.specs.LoopBank.{slowTimes, midTimes, fastTimes, scaledOf, stepOf, stepSlow, stepMid, updateSlowMid, duckGoal, fastGoal, updateFast, updateRelease, withHold, releaseHold, contributionsOf}
+use Rattle.comis.specs.LoopBank.{slowTimes, midTimes, fastTimes, scaledOf, stepOf, stepSlow, stepMid, updateSlowMid, duckGoal, fastGoal, updateFast, updateRelease, withHold, releaseHold}
 use Rattle.comis.specs.Engine.{midAuthority, fastAuthority, loopConfig, tickIn, processTick, processFast}
 use Rattle.comis.proofs.Stretch.{remaining-finite}
 use Rattle.ratio.specs.declared.Duck.{Duck}
 use Rattle.ratio.specs.declared.Inputs.{Inputs}
 use Rattle.ratio.specs.declared.Framed.{Framed}
 use Rattle.ratio.specs.declared.RatioStatus.{RatioStatus}
-use Rattle.ratio.specs.Status.{configOf, statusOf}
+use Rattle.ratio.specs.Status.{configOf}
 use Rattle.ratio.specs.Finite.{finiteShown, finiteLoops, finiteStatus}
-use Rattle.ratio.specs.Frame.{frameSeconds, zeroLoops, snapshotOf, disabledFrame, tickOf, fastOf, enabledFrame, frameOf}
+use Rattle.ratio.specs.Frame.{frameSeconds, snapshotOf, disabledFrame, enabledFrame, frameOf}
 use Rattle.chain.specs.Numbers.{ofLoops}
-use Rattle.chain.specs.Runaway.{ofShown, ofStatus, byStep, byStretch, slowStep, midStep, fastStep, needOf, ducking, releasing, steps, stateOf}
+use Rattle.chain.specs.Runaway.{ofShown, ofStatus, byStep, byStretch, slowStep, midStep, fastStep, ducking, releasing, steps, stateOf}
 use Rattle.level.proofs.Finite.{Alls, none, _more_, _and_, all-finite, finite-all, only, all-and, parts}
 
 three : (a b c : List Float) → allFinite (a ++ b ++ c) ≡ (allFinite a && allFinite b) && allFinite c
@@ -167,9 +166,6 @@ module _ (l : Loops) (d : Duck) (i : Inputs) where
 
     abbrev quick : Updated
     quick = processFast (configOf d) (tick .loops) state (i .«bed_fast») (i .«dialogue_short_term») frameSeconds
-
-    abbrev need : Lufs → Shown
-    need bed = needOf l (quick .loops) d state bed (i .«dialogue_short_term»)
 
   powers-are : (state : MixState) → tick state .finite && quick state .finite ≡ allFinite (cond (isDucking state) (ducking l (quick state .loops) d state i) (releasing l (quick state .loops) d state))
   unfolding tickIn processFast

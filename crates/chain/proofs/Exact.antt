@@ -22,10 +22,10 @@ use Rattle.chain.specs.declared.Worked.{Worked}
 use Rattle.chain.specs.Chain.{inputsOf, workOf, answerOf, refusedOf, passedOf, finiteIn, fullIn, judgedOf, frameOf}
 use Rattle.chain.specs.Strands.{Whole}
 use Rattle.chain.specs.Valid.{Valid}
-use Rattle.chain.specs.Numbers.{ofSettings, ofStrand, ofLoops, numbersOf}
+use Rattle.chain.specs.Numbers.{ofSettings, ofStrand, numbersOf}
 use Rattle.chain.specs.Rules.{frameNumber}
 use Rattle.chain.specs.Runaway.{storedIn, ofStatus, ofState, answeredIn, toLogarithm, toTen, toPower, toRoot, toNarrowing, numbersIn, RunsAway, RunawayExact}
-use Rattle.level.proofs.Finite.{Alls, none, _more_, _and_, all-finite, finite-all, parts}
+use Rattle.level.proofs.Finite.{Alls, _and_, all-finite, finite-all, parts}
 use Rattle.chain.proofs.AllFinite.{of-settings}
 use Rattle.chain.proofs.Accepted as accepted
 use Rattle.chain.proofs.Laws.{rows, framed}

@@ -1,24 +1,21 @@
 -- The level's flag against the lists: what it says of the powers that go to the logarithm, and that it holds where they and the stored numbers are finite.
-use Prim.Native.Nat.{_≤_}
 use native.Mathlib.Omega.{arith}
-use mathlib.Core.Path.{_≡_, refl, subst, sym, ap}
-use mathlib.Core.Bool.{Bool, true, false, cond, _&&_}
+use mathlib.Core.Path.{_≡_, subst}
+use mathlib.Core.Bool.{Bool, true, false, cond}
 use mathlib.Core.List.{List, [], _∷_, _++_}
 use lib.Dec.{T}
 use lib.ListN.{length}
 use lib.Ieee.{Float, binary64, lt, fits, ofBits}
-use lib.Ieee.Fits.{add-fits, div-fits, and-i, and-l, and-r}
+use lib.Ieee.Fits.{add-fits, div-fits, and-i, and-r}
 use lib.Ieee.Scale.{finite}
 use Rattle.float.specs.Choice.{maxOf}
-use Rattle.level.specs.Bs1770.{_⊕_, _⊗_, zero64, one64, momentaryFrames, shortTermFrames, loudness}
+use Rattle.level.specs.Bs1770.{zero64, loudness}
 use Rattle.level.specs.Finite.{allFinite}
 use Rattle.level.specs.declared.Level.{Level}
 use Rattle.level.specs.Weighing.{runOf}
 use Rattle.level.specs.Deque.{joint}
 use Rattle.level.specs.Level as level
 use Rattle.level.specs.declared.Weighing.{Weighing}
-use Rattle.level.specs.declared.Joint.{Joint}
-use Rattle.level.specs.declared.Powers.{Powers}
 use Rattle.chain.specs.Runaway.{aboveZero, ofLoudness}
 use Rattle.chain.specs.Numbers.{ofLevel}
 use Rattle.level.proofs.Finite.{Alls, none, _more_, _and_, all-finite, finite-all, only, parts, new-finite}

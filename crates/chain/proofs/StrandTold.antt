@@ -14,7 +14,7 @@ use Rattle.level.specs.declared.Framed as metered
 use Rattle.level.specs.declared.Reading.{Reading}
 use Rattle.level.proofs.Valid as levels
 use Rattle.detector.specs.Detector as detector
-use Rattle.detector.specs.Filters.{begun, runOf, outputsOf, eighths}
+use Rattle.detector.specs.Filters.{begun, runOf}
 use Rattle.detector.specs.declared.Frame.{Frame}
 use Rattle.detector.specs.declared.Heard.{Heard}
 use Rattle.detector.proofs.Valid as detectors
@@ -28,11 +28,11 @@ use Rattle.vad.specs.declared.VadState.{VadState}
 use Rattle.vad.specs.declared.Strand.{Strand}
 use Rattle.vad.specs.declared.Framed.{Framed}
 use Rattle.vad.specs.Decision.{exponent}
-use Rattle.vad.specs.State.{stateOf, powerNumber, levelNumber, handedOf, numbersOf}
+use Rattle.vad.specs.State.{stateOf, powerNumber, levelNumber, numbersOf}
 use Rattle.vad.specs.Strand.{gatedOf, nextOf, finishOf, frameOf}
 use Rattle.vad.specs.Valid.{Valid}
 use Rattle.chain.specs.Numbers.{ofLevel, ofDetector, ofPower, ofDecision, ofStrand}
-use Rattle.chain.specs.Runaway.{ofSpeechLevel, ofState, aboveZero, ofLoudness, ofBands, ofSpeech, toLogarithm, toTen, toRoot, toNarrowing}
+use Rattle.chain.specs.Runaway.{ofSpeechLevel, ofState, ofLoudness, ofBands, ofSpeech, toLogarithm, toTen, toRoot, toNarrowing}
 use Rattle.level.proofs.Finite.{Alls, none, _more_, _and_, all-finite, finite-all, parts}
 use Rattle.chain.proofs.AllFinite.{of-level, of-detector}
 use Rattle.chain.proofs.LevelTold.{zero-finite, handed-told, handed-tells, level-told, level-tells}

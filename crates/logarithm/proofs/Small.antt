@@ -1,5 +1,5 @@
 -- A fraction below 2 ^ emax is rounded to a finite number, and so a product of small factors and a sum of small terms are finite. Assumes nothing.
-use mathlib.Core.Path.{_≡_, sym, ap, _∙_, subst}
+use mathlib.Core.Path.{sym, ap, _∙_, subst}
 use mathlib.Core.Bool.{Bool, true, false, cond, _&&_, Bool·beq}
 use Prim.Native.Nat.{ℕ, suc, _+_, _-_, _*_, _/_, _%_, _^_, _≤_, _<_, compare}
 use native.Mathlib.Nat.{le-trans, le-of-eq, lt-of-lt-of-le, lt-of-le-of-lt, mul-pos, mul-le-mul, mul-le-mul-right, mul-lt-mul-of-pos-right, mul-right-comm, mul-mul-mul-comm, mul-assoc, mul-comm, pow-suc, div-lt-iff-lt-mul, div-div-eq-div-mul, le-of-mul-le-mul-right}
@@ -7,7 +7,7 @@ use native.Mathlib.Omega.{arith}
 use lib.Dec.{T, ltb}
 use lib.IntN.{ℤ}
 use lib.Pow.{pow-add, pow-pos, pow-lt, pow-mono}
-use lib.Ieee.{Float, nan, inf, fin, Format, prec, emax, low, up, down, size, nearest, units, round, sum, add, mul, unlike}
+use lib.Ieee.{Float, nan, inf, fin, Format, prec, emax, low, up, down, size, nearest, round, sum, add, mul, unlike}
 use lib.Ieee.Digits.{size-le}
 use lib.Ieee.Exact.{HasValue, units-val}
 use lib.Ieee.Fits.{two, reach, down-pos, nearest-le, kept-lt, round-is}
