@@ -130,10 +130,10 @@ repeated c (frame key bed) x a k s q =
 repeated c (settings b) x a k s q = not-a-frame s
 repeated c (reset n) x a k s q = not-a-frame s
 
-alike : (es bs : Log Event) (e f : Event) (a a₁ : Answered) → First rules isFrame (es ▹ e) bs f → isFrame e ≡ true
-    → sees rules U repeating bs f .reply ≡ passed (answer a₁) → sees rules U repeating es e .reply ≡ passed (answer a) → reductionOf a ≡ reductionOf a₁
-alike es bs e f a a₁ (now n s) h q₁ q = ap reductionOf (same-answer (sym q ∙ q₁))
-alike es bs e f a a₁ (earlier p) h q₁ q = repeated (chainAfter es) e (reductionOf a₁) a (keeps p a₁ q₁) h q
+alike : (h past : Log Event) (e f : Event) (a a₁ : Answered) → First rules isFrame (h ▹ e) past f → isFrame e ≡ true
+    → sees rules U repeating past f .reply ≡ passed (answer a₁) → sees rules U repeating h e .reply ≡ passed (answer a) → reductionOf a ≡ reductionOf a₁
+alike h past e f a a₁ (now n s) of q₁ q = ap reductionOf (same-answer (sym q ∙ q₁))
+alike h past e f a a₁ (earlier p) of q₁ q = repeated (chainAfter h) e (reductionOf a₁) a (keeps p a₁ q₁) of q
 
 pub repeating-repeats : Repeats rules isFrame rust reductionOf repeating
-repeating-repeats = record { repeats = alike }
+repeating-repeats = record { repeats = λ h past e f a a₁ v. alike h past e f a a₁ }

@@ -67,7 +67,7 @@ module _ (R : Rules) (port : Port R (eventCalls R)) where
           let a = right (w .h) (w .e) (w .lived) in
           let a′ = right (w .h′) (w .e′) (w .lived′) in
           w .apart (
-          sym (ap look (a .2)) ∙ f .fixed (w .h) (w .e) (a .0) (w .of-sort) (a .1) ∙ sym (f .fixed (w .h′) (w .e′) (a′ .0) (w .of-sort′) (a′ .1)) ∙ ap look (a′ .2)
+          sym (ap look (a .2)) ∙ f .fixed (w .h) (w .e) (a .0) (w .lived) (w .of-sort) (a .1) ∙ sym (f .fixed (w .h′) (w .e′) (a′ .0) (w .lived′) (w .of-sort′) (a′ .1)) ∙ ap look (a′ .2)
           )
 
       -- one that repeats its first answer fails it where the reference is seen to say something else later
@@ -75,7 +75,7 @@ module _ (R : Rules) (port : Port R (eventCalls R)) where
       not-repeats w f =
           let a = right (w .h) (w .e) (w .lived) in
           let a₁ = right (w .past) (w .first) (first-lived sort (w .is-first) (w .lived)) in
-          w .apart (sym (ap look (a .2)) ∙ f .repeats (w .h) (w .past) (w .e) (w .first) (a .0) (a₁ .0) (w .is-first) (w .of-sort) (a₁ .1) (a .1) ∙ ap look (a₁ .2))
+          w .apart (sym (ap look (a .2)) ∙ f .repeats (w .h) (w .past) (w .e) (w .first) (a .0) (a₁ .0) (w .lived) (w .is-first) (w .of-sort) (a₁ .1) (a .1) ∙ ap look (a₁ .2))
 
     -- one that counts more than the reference, wherever it is
     pub not-inventing : (count : M .Said → ℕ) → Invents R M count port → ⊥
@@ -110,7 +110,7 @@ module _ (R : Rules) (sort : R .Event → Bool) (M : Reference R) {View : Type 0
   pub always-fixed : (a : R .Answer) (unit : Port R (eventCalls R)) → Fixed R sort M look (always R sort a unit)
   always-fixed a unit = record {
     v = look (M .part a);
-    fixed = λ es e b of q. ap (λ x. look (M .part x)) (answered-by (sort e) a b _ _ of q);
+    fixed = λ h e b v of q. ap (λ x. look (M .part x)) (answered-by (sort e) a b _ _ of q);
   }
 
 -- ---- units that save or restore wrongly

@@ -61,18 +61,18 @@ module _ (R : Rules) where
       -- ---- DEAD UNITS: first two that answer, by what is looked at; one that counts; one that refuses; two with images
 
       module _ (port : Port R (eventCalls R)) where
-        -- whatever it answers to an event of the sort looks like v (always 0 dB), whatever it does with the others
+        -- in every history, whatever it answers to an event of the sort looks like v (always 0 dB), whatever it does with the others
         pub record Fixed : Type 0 where
           pub v : View
-          pub fixed : (es : Log (R .Event)) (e : R .Event) (a : R .Answer) → sort e ≡ true
-              → sees R (eventCalls R) port es e .reply ≡ passed (answer a) → look (M .part a) ≡ v
+          pub fixed : (h : History R) (e : R .Event) (a : R .Answer) → Lived (h ▹ e) → sort e ≡ true
+              → sees R (eventCalls R) port h e .reply ≡ passed (answer a) → look (M .part a) ≡ v
 
-        -- whatever it answers to an event of the sort looks like its answer to the first of that sort in the list, with any other
+        -- in every history, whatever it answers to an event of the sort looks like its answer to the first of that sort, with any other
         -- events before it and between (works on the first frame and repeats it)
         pub record Repeats : Type 0 where
-          pub repeats : (es bs : Log (R .Event)) (e f : R .Event) (a a₁ : R .Answer) → First (es ▹ e) bs f → sort e ≡ true
-              → sees R (eventCalls R) port bs f .reply ≡ passed (answer a₁)
-              → sees R (eventCalls R) port es e .reply ≡ passed (answer a) → look (M .part a) ≡ look (M .part a₁)
+          pub repeats : (h past : History R) (e f : R .Event) (a a₁ : R .Answer) → Lived (h ▹ e) → First (h ▹ e) past f → sort e ≡ true
+              → sees R (eventCalls R) port past f .reply ≡ passed (answer a₁)
+              → sees R (eventCalls R) port h e .reply ≡ passed (answer a) → look (M .part a) ≡ look (M .part a₁)
 
     -- it refuses every event of the sort (runaway for every frame)
     pub record RefusesAll (port : Port R (eventCalls R)) : Type 0 where
