@@ -10,6 +10,7 @@ pub mod dsp;
 #[path = "../../target/compare/upstream/mix/mod.rs"]
 pub mod mix;
 
+pub mod audio;
 pub mod calls;
 pub mod constants;
 pub mod decision;

@@ -3,15 +3,15 @@
 use std::io::Write;
 use std::process::ExitCode;
 
-use compare::signals::{Signal, FULL, LOW, NOISY_SPEECH, SPEECH};
-use compare::{constants, record, replay, selftest};
+use compare::{audio, constants, record, replay, selftest};
 
 const HELP: &str = "\
 compare record MODULE [-o PATH]      writes a module's recorded answers
 compare replay calls [SEED COUNT]    writes a random list of at least COUNT calls as replay reads
                                      it; without SEED and COUNT the one that is kept
 compare replay answers [SEED COUNT]  writes the Rust's answers to it
-compare audio COUNT                  writes COUNT frames as duckline reads them: speech, noisy speech
+compare audio [COUNT]                writes COUNT frames as duckline reads them: speech, noisy speech;
+                                     without COUNT the run that is kept
 compare constants                    prints the constants' table
 compare selftest                     tests root, narrowing, round, images and document 01's examples
 compare paths                        prints each module and where its recorded file lies";
@@ -55,24 +55,6 @@ fn replayed(part: &str, list: &[&str]) -> Result<(), String> {
     }
 }
 
-fn audio(count: &str) -> Result<(), String> {
-    let strands = [
-        Signal::new(SPEECH, 400, FULL),
-        Signal::new(NOISY_SPEECH, 333, LOW),
-    ];
-    for i in 0..number(count)? {
-        for strand in strands {
-            let bytes: Vec<u8> = strand
-                .samples(i * 480, 480)
-                .iter()
-                .flat_map(|x| x.to_le_bytes())
-                .collect();
-            put(&bytes)?;
-        }
-    }
-    Ok(())
-}
-
 fn test() -> Result<(), String> {
     let (compared, differ) = selftest::run();
     println!("{compared} compared, {differ} differ");
@@ -90,7 +72,8 @@ fn main() -> ExitCode {
         [.., "-h" | "--help"] | [] => put(format!("{HELP}\n").as_bytes()),
         ["record", rest @ ..] => record(rest),
         ["replay", part, list @ ..] => replayed(part, list),
-        ["audio", count] => audio(count),
+        ["audio"] => put(&audio::kept()),
+        ["audio", count] => number(count).and_then(|n| put(&audio::stream(n))),
         ["constants"] => put(constants::text().as_bytes()),
         ["selftest"] => test(),
         ["paths"] => {

@@ -1,7 +1,10 @@
 // Standard input through a buffer of 16 frames.
 ghost use mathlib.Core.Path.{_≡_};
 ghost use Prim.Native.Nat.{_+_, _*_, _≤_, _<_};
-ghost use lib.ListN.{length};
+ghost use lib.ListN.{length, take};
+ghost use Rattle.blocks.specs.Words.{word2};
+ghost use Rattle.duckline.specs.Line.{sampleAt, strandAt, keyAt, bedAt};
+ghost use Rattle.duckline.specs.Frames.{keptOf};
 use libc::STDIN_FILENO;
 
 // Samples of a strand.
@@ -22,29 +25,40 @@ pub fn buffer() -> [u8; BUFFER]
     [0; BUFFER]
 }
 
-fn wide(b: u8) -> u32 {
+fn wide(b: u8) -> u32
+    ensures { λ r. ⌜ (r ≡ b) × (r < 256) ⌝ }
+{
     b as u32
 }
 
 // The 16 bits at `at`, the low byte first. Of two halves the compiler reads a sample's four bytes at once.
 fn half(buffer: &[u8; BUFFER], at: usize) -> u32
     requires { ⌜ at + 2 ≤ 61440 ⌝ }
+    ensures { λ r. ⌜ (r ≡ word2 (now (buffer .entry)) at) × (r < 65536) ⌝ }
 {
-    wide(buffer[at]) | wide(buffer[at + 1]) << 8
+    wide(buffer[at]) + wide(buffer[at + 1]) * 256
 }
 
 // The sample whose first byte is at `at`.
 fn sample(buffer: &[u8; BUFFER], at: usize) -> f32
     requires { ⌜ at + 4 ≤ 61440 ⌝ }
+    ensures { λ r. ⌜ r ≡ sampleAt (now (buffer .entry)) at ⌝ }
 {
-    float::from_bits32(half(buffer, at) | half(buffer, at + 2) << 16)
+    float::from_bits32(half(buffer, at) + half(buffer, at + 2) * 65536)
+}
+
+fn no_samples() -> [f32; SAMPLES]
+    ensures { λ r. ⌜ length r ≡ 480 ⌝ }
+{
+    [0.0; SAMPLES]
 }
 
 // The strand whose first byte is at `first`.
 fn strand(buffer: &[u8; BUFFER], first: usize) -> [f32; SAMPLES]
     requires { ⌜ first + 1920 ≤ 61440 ⌝ }
+    ensures { λ r. ⌜ r ≡ strandAt (now (buffer .entry)) first ⌝ }
 {
-    let mut x = [0.0f32; SAMPLES];
+    let mut x = no_samples();
     let mut k: usize = 0;
     while k < SAMPLES {
         x[k] = sample(buffer, first + 4 * k);
@@ -56,6 +70,7 @@ fn strand(buffer: &[u8; BUFFER], first: usize) -> [f32; SAMPLES]
 // The key of frame i.
 pub fn key(buffer: &[u8; BUFFER], i: usize) -> [f32; SAMPLES]
     requires { ⌜ i < 16 ⌝ }
+    ensures { λ r. ⌜ r ≡ keyAt (now (buffer .entry)) i ⌝ }
 {
     strand(buffer, i * FRAME)
 }
@@ -63,15 +78,16 @@ pub fn key(buffer: &[u8; BUFFER], i: usize) -> [f32; SAMPLES]
 // The bed of frame i.
 pub fn bed(buffer: &[u8; BUFFER], i: usize) -> [f32; SAMPLES]
     requires { ⌜ i < 16 ⌝ }
+    ensures { λ r. ⌜ r ≡ bedAt (now (buffer .entry)) i ⌝ }
 {
     strand(buffer, i * FRAME + STRAND)
 }
 
-// One read behind the bytes that are held: how many came, 0 at the end of the input. A read that fails counts as the end, and is told on
-// standard error.
+// One read behind the bytes that are held, which stay: how many came, 0 at the end of the input. A read that fails counts as the end, and is
+// told on standard error.
 pub fn read(buffer: &mut [u8], held: usize) -> usize
     requires { ⌜ held ≤ length (now buffer) ⌝ }
-    ensures { λ r. ⌜ held + r ≤ length (now (buffer .entry)) ⌝ }
+    ensures { λ r. ⌜ (held + r ≤ length (now (buffer .entry))) × (take held (now (buffer .exit)) ≡ take held (now (buffer .entry))) ⌝ }
 {
     let got = libc::read(STDIN_FILENO, &mut buffer[held..]);
     if got < 0 {
@@ -80,10 +96,10 @@ pub fn read(buffer: &mut [u8], held: usize) -> usize
     io::count(got, &buffer[held..])
 }
 
-// Moves what is held behind `count` frames, less than a frame, to the start: how many bytes these are.
-pub fn keep(buffer: &mut [u8; BUFFER], count: usize, held: usize) -> usize
-    requires { ⌜ (count * 3840 ≤ held) × (held ≤ 61440) ⌝ }
-    ensures { λ r. ⌜ count * 3840 + r ≡ held ⌝ }
+// Moves what is held behind `count` frames to the start: how many bytes these are.
+pub fn keep(buffer: &mut [u8], count: usize, held: usize) -> usize
+    requires { ⌜ (count * 3840 ≤ held) × (held ≤ length (now buffer)) ⌝ }
+    ensures { λ r. ⌜ record { bytes = now (buffer .exit); held = r } ≡ keptOf (now (buffer .entry)) count held ⌝ }
 {
     let first = count * FRAME;
     let left = held - first;

@@ -1,8 +1,9 @@
-// The lines of standard output. A frame's: its number, state, key active, bed active, and the rounded reduction in hundredths of a dB; or its
-// number, `refused` and the refusal's number.
+// The lines of standard output (specs/Line.antt), put into a text that is lent.
 ghost use mathlib.Core.Path.{_≡_};
 ghost use Prim.Native.Nat.{_+_, _≤_};
+ghost use mathlib.Core.List.{_++_};
 ghost use lib.ListN.{length};
+ghost use Rattle.duckline.specs.Line.{ascii, decimal, line, stateName, activeName, hundredthsOf, answerWords, lineOf, shortLine, putAt};
 use chain::Answer;
 use chain::Outcome;
 use comis::mix_state::MixState;
@@ -14,7 +15,7 @@ pub const TEXT: usize = 1024;
 // Puts bytes at a place of the text, and answers the place after them.
 fn put(text: &mut [u8; TEXT], at: usize, bytes: &[u8]) -> usize
     requires { ⌜ at + length (now bytes) ≤ 1024 ⌝ }
-    ensures { λ r. ⌜ r ≡ at + length (now (bytes .entry)) ⌝ }
+    ensures { λ r. ⌜ record { bytes = now (text .exit); end = r } ≡ putAt (now (text .entry)) at (now (bytes .entry)) ⌝ }
 {
     let mut k: usize = 0;
     while k < bytes.len() {
@@ -27,7 +28,7 @@ fn put(text: &mut [u8; TEXT], at: usize, bytes: &[u8]) -> usize
 // A number: at most 20 bytes.
 fn put_number(text: &mut [u8; TEXT], at: usize, n: u64) -> usize
     requires { ⌜ at + 20 ≤ 1024 ⌝ }
-    ensures { λ r. ⌜ r ≤ at + 20 ⌝ }
+    ensures { λ r. ⌜ record { bytes = now (text .exit); end = r } ≡ putAt (now (text .entry)) at (decimal n) ⌝ }
 {
     let mut digits = [0u8; 20];
     let count = io::decimal(n, &mut digits);
@@ -37,7 +38,7 @@ fn put_number(text: &mut [u8; TEXT], at: usize, n: u64) -> usize
 // A state's name between two spaces: at most 11 bytes.
 fn put_state(text: &mut [u8; TEXT], at: usize, state: MixState) -> usize
     requires { ⌜ at + 11 ≤ 1024 ⌝ }
-    ensures { λ r. ⌜ r ≤ at + 11 ⌝ }
+    ensures { λ r. ⌜ record { bytes = now (text .exit); end = r } ≡ putAt (now (text .entry)) at (ascii " " ++ ascii (stateName state) ++ ascii " ") ⌝ }
 {
     match state {
         MixState::ReleaseToUnity => put(text, at, b" release "),
@@ -50,7 +51,7 @@ fn put_state(text: &mut [u8; TEXT], at: usize, state: MixState) -> usize
 // Whether speech is active, and a space.
 fn put_active(text: &mut [u8; TEXT], at: usize, active: bool) -> usize
     requires { ⌜ at + 2 ≤ 1024 ⌝ }
-    ensures { λ r. ⌜ r ≤ at + 2 ⌝ }
+    ensures { λ r. ⌜ record { bytes = now (text .exit); end = r } ≡ putAt (now (text .entry)) at (ascii (activeName active) ++ ascii " ") ⌝ }
 {
     if active {
         return put(text, at, b"1 ");
@@ -58,21 +59,24 @@ fn put_active(text: &mut [u8; TEXT], at: usize, active: bool) -> usize
     put(text, at, b"0 ")
 }
 
-// A rounded reduction, dB, in hundredths. It is never negative.
-fn hundredths(reduction: f64) -> u64 {
+// A rounded reduction, dB, in hundredths: as the cast `as u64`.
+fn hundredths(reduction: f64) -> u64
+    ensures { λ r. ⌜ r ≡ hundredthsOf reduction ⌝ }
+{
     let n = float::round(reduction * 100.0);
     if n > -1.0 {
         if n < 18446744073709551616.0 {
             return std::num::truncating_f64_to_u64(n);
         }
+        return u64::MAX;
     }
     0
 }
 
-// What follows a frame's number.
+// What follows a frame's number: at most 36 bytes.
 fn put_answer(text: &mut [u8; TEXT], at: usize, a: Answer) -> usize
-    requires { ⌜ at + 44 ≤ 1024 ⌝ }
-    ensures { λ r. ⌜ r ≤ at + 36 ⌝ }
+    requires { ⌜ at + 36 ≤ 1024 ⌝ }
+    ensures { λ r. ⌜ record { bytes = now (text .exit); end = r } ≡ putAt (now (text .entry)) at (ascii " " ++ line (answerWords a)) ⌝ }
 {
     let status = a.status;
     let state = status.state;
@@ -84,10 +88,10 @@ fn put_answer(text: &mut [u8; TEXT], at: usize, a: Answer) -> usize
     put(text, end, b"\n")
 }
 
-// A frame's line, at most 64 bytes, at a place of the text: the place after it.
+// A frame's line, at most 64 bytes.
 pub fn frame(text: &mut [u8; TEXT], at: usize, number: u64, outcome: Outcome) -> usize
     requires { ⌜ at + 64 ≤ 1024 ⌝ }
-    ensures { λ r. ⌜ r ≤ at + 64 ⌝ }
+    ensures { λ r. ⌜ record { bytes = now (text .exit); end = r } ≡ putAt (now (text .entry)) at (lineOf number outcome) ⌝ }
 {
     let middle = put_number(text, at, number);
     match outcome {
@@ -100,20 +104,22 @@ pub fn frame(text: &mut [u8; TEXT], at: usize, number: u64, outcome: Outcome) ->
     }
 }
 
+// The line of leftover bytes, where there are any.
+pub fn short(text: &mut [u8; TEXT], left: usize) -> usize
+    ensures { λ r. ⌜ record { bytes = now (text .exit); end = r } ≡ putAt (now (text .entry)) 0 (shortLine left) ⌝ }
+{
+    if left == 0 {
+        return 0;
+    }
+    let number = put(text, 0, b"short ");
+    let end = put_number(text, number, left as u64);
+    put(text, end, b"\n")
+}
+
 // Writes the first n bytes of the text, and answers whether that could be done.
 pub fn write(text: &[u8; TEXT], n: usize) -> bool
     requires { ⌜ n ≤ 1024 ⌝ }
 {
     let whole: &[u8] = text;
     io::write_all(STDOUT_FILENO, &whole[..n])
-}
-
-// The line of leftover bytes, where there are any.
-pub fn print_short(left: usize) {
-    if left == 0 {
-        return;
-    }
-    io::write_all(STDOUT_FILENO, b"short ");
-    io::print_decimal(STDOUT_FILENO, left as u64);
-    io::write_all(STDOUT_FILENO, b"\n");
 }

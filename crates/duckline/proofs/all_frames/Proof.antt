@@ -1,15 +1,16 @@
 -- `all_frames` is safe and ends: less than a frame is held from read to read. The measure is the number of turns that are left.
 use Prim.Native.Nat.{_<_}
 use native.Mathlib.Omega.{arith}
+use Rattle.duckline.proofs.Ran.{read-held, read-end}
 use borrow.Author.Needs.{needs}
 use Rattle.duckline.proofs.all_frames.Statement.{statement}
 use Rattle.duckline.proofs.all_frames.Tie as tie
 
 abbrev Inv-loop : tie.InvT-loop
-Inv-loop buffer₀ run₀ held₀ turns₀ buffer run held turns = held < 3840
+Inv-loop buffer₀ text₀ run₀ held₀ turns₀ buffer text run held turns = held < 3840
 
 abbrev μ-loop : tie.MeasureT-loop
-μ-loop buffer₀ run₀ held₀ turns₀ buffer run held turns = turns
+μ-loop buffer₀ text₀ run₀ held₀ turns₀ buffer text run held turns = turns
 
 new-requires : tie.Need-new-requires Inv-loop μ-loop
 new-requires c κs = search needs
@@ -23,14 +24,14 @@ read-requires c κs = search needs
 returns : tie.Need-returns Inv-loop μ-loop
 returns c = search needs
 
-add-held : tie.Need-add-held Inv-loop μ-loop
-add-held c = search needs
+add-after-read : tie.Need-add-after-read Inv-loop μ-loop
+add-after-read c = search needs
 
-frames-requires : tie.Need-frames-requires Inv-loop μ-loop
-frames-requires c κs = search needs
+after-read-requires : tie.Need-after-read-requires Inv-loop μ-loop
+after-read-requires c κs = search needs
 
-keep-requires : tie.Need-keep-requires Inv-loop μ-loop
-keep-requires c κs = search needs
+write-requires : tie.Need-write-requires Inv-loop μ-loop
+write-requires c κs = omega (arith, read-end _ _ _ _ _ (c .before .before .after-read .ensures))
 
 sub-turns : tie.Need-sub-turns Inv-loop μ-loop
 sub-turns c = search needs
@@ -39,7 +40,7 @@ loop-less : tie.Need-loop-less Inv-loop μ-loop
 loop-less c = search needs
 
 loop-again : tie.Need-loop-again Inv-loop μ-loop
-loop-again c = search needs
+loop-again c = omega (arith, read-held _ _ _ _ _ (c .before .before .before .before .after-read .ensures))
 
 returns-2 : tie.Need-returns-2 Inv-loop μ-loop
 returns-2 c = search needs
@@ -57,9 +58,9 @@ all-frames-spec =
     loop-holds
     read-requires
     returns
-    add-held
-    frames-requires
-    keep-requires
+    add-after-read
+    after-read-requires
+    write-requires
     sub-turns
     loop-less
     loop-again

@@ -1,8 +1,10 @@
--- `lines::hundredths` is safe: what is above -1 and below 2^64 has a whole part that fits.
-use mathlib.Core.Path.{sym, subst}
+-- `lines::hundredths` meets its contract: between -1 and 2^64 the whole part is cast, and past the ends the range's end is answered.
+use mathlib.Core.Path.{sym, ap, subst, _∙_}
 use lib.Dec.{T}
-use lib.Ieee.{ofBits, neg}
+use lib.Ieee.{ofBits, neg, toUnsigned}
 use borrow.Author.Needs.{needs}
+use Rattle.duckline.specs.Line.{hundredthsOf}
+use Rattle.duckline.proofs.Hundredths.{low, high}
 use Rattle.duckline.proofs.lines.hundredths.Statement.{statement}
 use Rattle.duckline.proofs.lines.hundredths.Tie as tie
 
@@ -14,13 +16,16 @@ unfolding ofBits neg
 truncating-f64-to-u64-requires c κs = (subst T (sym (c .before .if1 .taken)) tt, subst T (sym (c .if2 .taken)) tt)
 
 returns : tie.Need-returns
-returns c = search needs
+unfolding hundredthsOf
+returns c = c .truncating-f64-to-u64 .ensures ∙ ap (toUnsigned 64) (c .before .before .before .round .ensures)
 
 returns-2 : tie.Need-returns-2
-returns-2 c = search needs
+unfolding hundredthsOf ofBits neg
+returns-2 c = sym (sym (ap (toUnsigned 64) (c .before .before .round .ensures)) ∙ high (c .before .before .round .result) (c .before .if1 .taken) (c .if2 .left))
 
 returns-3 : tie.Need-returns-3
-returns-3 c = search needs
+unfolding hundredthsOf ofBits neg
+returns-3 c = sym (sym (ap (toUnsigned 64) (c .before .round .ensures)) ∙ low (c .before .round .result) (c .if1 .left))
 
 pub hundredths-spec : {M : Type 1} → statement M
 hundredths-spec =

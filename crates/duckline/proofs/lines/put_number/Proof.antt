@@ -1,20 +1,12 @@
--- `lines::put_number` is safe, and puts at most 20 bytes: a number below 2^64 has no more digits.
-use mathlib.Core.Logic.{⊎-elim}
-use Prim.Native.Nat.{ℕ, _-_, _^_, _≤_, _<_}
-use native.Mathlib.Nat.{eq-zero-or-pos, pow-le-pow-right}
+-- `lines::put_number` meets its contract: the digits that `io::decimal` gives are those of `decimal`, at most 20.
+use mathlib.Core.Path.{ap, _∙_}
 use native.Mathlib.Omega.{arith}
+use lib.ListN.{length}
 use borrow.Author.Needs.{needs}
+use Rattle.duckline.specs.Line.{decimal, putAt}
+use Rattle.duckline.proofs.Digits.{decimal-digits, decimal-length}
 use Rattle.duckline.proofs.lines.put_number.Statement.{statement}
 use Rattle.duckline.proofs.lines.put_number.Tie as tie
-
-at-most-20 : (k n : ℕ) → n < 2 ^ 64 → (1 < k → 10 ^ (k - 1) ≤ n) → k ≤ 20
-at-most-20 k n small fewest =
-    ⊎-elim
-    (λ e. omega arith)
-    (λ p. let a : 20 ≤ k - 1 = omega arith in
-    let b : 10 ^ 20 ≤ 10 ^ (k - 1) = pow-le-pow-right (omega arith) a in
-    omega (arith, fewest (omega arith), b))
-    (eq-zero-or-pos (k - 20))
 
 decimal-requires : tie.Need-decimal-requires
 decimal-requires c κs = search needs
@@ -27,11 +19,15 @@ slice-aggregate-put c = search needs
 
 put-requires : tie.Need-put-requires
 put-requires c κs =
-    omega (arith, at-most-20 (c .before .before .decimal .result) _ (search needs) (c .before .before .decimal .ensures .1 .0 .2), c .before .before .decimal .ensures .0 .1)
+    let n = c .before .before .before .before .args .n in
+    let d = c .before .before .decimal in
+    omega (arith, ap length (d .ensures .1 .1 ∙ decimal-digits (d .result) n (search needs) (d .ensures .1 .0)), decimal-length n)
 
 returns : tie.Need-returns
 returns c =
-    omega (arith, at-most-20 (c .before .before .before .decimal .result) _ (search needs) (c .before .before .before .decimal .ensures .1 .0 .2), c .before .before .before .decimal .ensures .0 .1)
+    let a = c .before .before .before .before .before .args in
+    let d = c .before .before .before .decimal in
+    c .put .ensures ∙ ap (putAt (a .text .now) (a .at)) (d .ensures .1 .1 ∙ decimal-digits (d .result) (a .n) (search needs) (d .ensures .1 .0))
 
 pub put-number-spec : {M : Type 1} → statement M
 put-number-spec =

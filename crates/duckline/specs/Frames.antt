@@ -1,0 +1,63 @@
+-- What duckline does with bytes that it has read: frames one after the other, their lines, and what is left. Definitions only.
+use Prim.Native.Nat.{ℕ, zero, suc, _+_, _*_, _-_, _/_, _%_, _^_}
+use mathlib.Core.List.{List, [], _++_}
+use lib.Ieee.{Float}
+use lib.ListN.{length, take, drop}
+use Rattle.blocks.specs.Lists.{laid}
+use Rattle.chain.specs.declared.Chain.{Chain}
+use Rattle.chain.specs.Chain.{frameOf}
+use Rattle.duckline.specs.Line.{frameBytes, keyAt, bedAt, lineOf}
+use Rattle.duckline.specs.declared.Run.{Run}
+use Rattle.duckline.specs.declared.Next.{Next}
+
+-- a chain, the number of the frame that comes next, and text
+pub record Ran : Type 0 where
+  pub chain : Chain
+  pub number : ℕ
+  pub text : List ℕ
+
+-- one frame more, and its line
+abbrev pub heardOf : Ran → List Float → List Float → Ran
+heardOf r key bed =
+    let f = frameOf (r .chain) key bed in
+    record { chain = f .chain; number = (r .number + 1) % 2 ^ 64; text = r .text ++ lineOf (r .number) (f .outcome) }
+
+-- the first k frames of some bytes, on a chain, the first of them with number n
+unfoldable pub ranOf : Chain → ℕ → List ℕ → ℕ → Ran
+ranOf c n b zero = record { chain = c; number = n; text = [] }
+ranOf c n b (suc k) = heardOf (ranOf c n b k) (keyAt b k) (bedAt b k)
+
+-- a run and its lent text
+pub record Written : Type 0 where
+  pub run : Run
+  pub bytes : List ℕ
+
+unfoldable pub framesIn : Run → List ℕ → ℕ → List ℕ → Written
+framesIn s b k t =
+    let r = ranOf (s .chain) (s .number) b k in
+    record { run = record { chain = r .chain; number = r .number; end = length (r .text) }; bytes = laid t 0 (r .text) }
+
+-- ---- what is left
+
+-- bytes of a buffer, and how many of them are held
+pub record Held : Type 0 where
+  pub bytes : List ℕ
+  pub held : ℕ
+
+-- n bytes are held: those behind the first k frames go to the start
+unfoldable pub keptOf : List ℕ → ℕ → ℕ → Held
+keptOf b k n = let first = k * frameBytes in record { bytes = laid b 0 (take (n - first) (drop first b)); held = n - first }
+
+-- after a read: what comes next, the buffer and the text
+pub record AfterRead : Type 0 where
+  pub next : Next
+  pub buffer : List ℕ
+  pub text : List ℕ
+
+-- n bytes are held: the whole frames among them get their lines, and what is left behind them is held
+unfoldable pub afterReadIn : Run → List ℕ → ℕ → List ℕ → AfterRead
+afterReadIn s b n t =
+    let k = n / frameBytes in
+    let w = framesIn s b k t in
+    let h = keptOf b k n in
+    record { next = record { run = w .run; held = h .held }; buffer = h .bytes; text = w .bytes }

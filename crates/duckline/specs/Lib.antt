@@ -1,0 +1,3 @@
+pub mod Line
+pub mod Frames
+pub mod Reads
