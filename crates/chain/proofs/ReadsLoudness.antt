@@ -1,6 +1,4 @@
 -- After every history the strands read, and the ducker is given, what BS.1770 says: the chain has heard the history's samples.
-use mathlib.Core.List.{List}
-use lib.Ieee.{Float}
 use Rattle.demands.specs.Calls.{Log, empty, _▹_}
 use Rattle.demands.specs.Demands.{stateOf}
 use Rattle.demands.specs.Dead.{Lived}

@@ -5,10 +5,9 @@ use mathlib.Core.Bool.{Bool, true, false, cond}
 use mathlib.Core.List.{List}
 use lib.Dec.{eqb}
 use lib.ListN.{length}
-use lib.Ieee.{Float, inf, binary32, binary64, ofBits}
+use lib.Ieee.{Float, inf}
 use borrow.Author.Tests.{eqb-true}
 use Rattle.demands.specs.Laws.{Stores}
-use Rattle.float.specs.Valid.{Num}
 use Rattle.sequence.specs.History.{latest, held, filled}
 use Rattle.sequence.specs.Counted.{Counted}
 use Rattle.sequence.proofs.Counted.{counted-length, counted-filled}
@@ -27,12 +26,11 @@ use Rattle.vad.specs.Rust.{RustVad}
 use Rattle.vad.specs.Agrees.{Agrees}
 use Rattle.vad.specs.Valid as strand
 use Rattle.comis.specs.Rust.{AutomixEngine}
-use Rattle.chain.specs.declared.Chain.{Chain}
 use Rattle.chain.specs.Valid.{Valid}
 use Rattle.chain.specs.Rules.{rules}
-use Rattle.chain.specs.Rust.{RustChain, rust}
+use Rattle.chain.specs.Rust.{rust}
 use Rattle.chain.specs.RustState.{levelStored, floorStored, detectorStored, strandStored, loopsStored, stored}
-use Rattle.chain.proofs.AgreesRust.{Like, rust-agrees}
+use Rattle.chain.proofs.AgreesRust.{rust-agrees}
 
 -- ---- a deque: the list xs that a count and its places hold
 

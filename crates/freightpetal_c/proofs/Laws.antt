@@ -13,7 +13,6 @@ use Rattle.demands.specs.declared.Refusal.the-variants.{WrongLength}
 use Rattle.demands.specs.Calls.{Log, empty, _▹_, Call, event, save, restore, Reply, refusal, passed, answer, Step, gets}
 use Rattle.demands.specs.Demands.{from}
 use Rattle.demands.proofs.Demands.{from-valid}
-use Rattle.chain.specs.declared.Answer.{Answer}
 use Rattle.chain.specs.declared.Chain.{Chain}
 use Rattle.chain.specs.declared.Changed.{Changed}
 use Rattle.chain.specs.declared.Framed.{Framed}
@@ -22,7 +21,7 @@ use Rattle.chain.specs.declared.Outcome.the-variants as outcome
 use Rattle.chain.specs.declared.Verdict.{Verdict}
 use Rattle.chain.specs.declared.Verdict.the-variants as verdict
 use Rattle.chain.specs.Chain.{freshOf, frameOf, setOf, resetOf}
-use Rattle.chain.specs.Rules.{Event, frame, settings, reset, Answered, shown, rules, refuses, replyOf, notedOf}
+use Rattle.chain.specs.Rules.{Event, frame, settings, reset, Answered, rules, refuses, replyOf, notedOf}
 use Rattle.chain.specs.Rules as events
 use Rattle.chain.specs.Valid.{Valid}
 use Rattle.chain.proofs.Laws.{refused, passes}
@@ -32,9 +31,8 @@ use Rattle.image.specs.Port.{images, port}
 use Rattle.image.specs.Port as images
 use Rattle.image.proofs.Laws.{image-length, image-accepted, accepted-image, read-accepted, restore-accepted, restore-unchanged, restore-image}
 use Rattle.image.proofs.Plug.{all-laws}
-use Rattle.words.specs.Words.{answerWords}
 use Rattle.freightpetal_c.specs.Lent.{codeOf, codeIn, Answered as Told, heardIn, framedIn, openedFrame, frameIn, savedAs, changedIn, openedSet, setIn, openedReset, resetIn}
-use Rattle.freightpetal_c.specs.Laws.{leftBy, Done, doneBy, lentFrom, numberIn, doneIn, chainFrom, LentLaws}
+use Rattle.freightpetal_c.specs.Laws.{leftBy, Done, doneBy, lentFrom, numberIn, doneIn, wordsAfter, frameDone, chainFrom, LentLaws}
 
 -- a save into bytes of the right length writes the image
 save-right : (c : Chain) (b : List ℕ) → length b ≡ imageBytes → savedIn c b ≡ image c
@@ -93,12 +91,18 @@ module _ (c : Chain) (v : Valid c) where
       rw (restore-image freshOf c v) (change-left (setOf c (a .values)) (stays c (settings a)))
   left (reset n) = rw (restore-image freshOf c v) (change-left (resetOf c n) (stays c (reset n)))
 
-  frame-words : (a : List ℕ) (f : Framed) (x : Answer) → replyOf (f .outcome) ≡ passed (answer (shown x)) → framedIn (image c) a f .words ≡ answerWords x
-  frame-words a f x = go (f .outcome)
+  frame-words : (a : List ℕ) (f : Framed) → framedIn (image c) a f .words ≡ wordsAfter a (replyOf (f .outcome))
+  frame-words a f = go (f .outcome)
     where
-      go : (o : Outcome) → replyOf o ≡ passed (answer (shown x)) → heardIn (image c) a (f .chain) o .words ≡ answerWords x
-      go (outcome.Passed y) e = let q : y ≡ x = cc in ap answerWords q
-      go (outcome.Refused r) e = let y : _≡_ {A = ℕ} 0 1 = cc in absurd (omega arith)
+      go : (o : Outcome) → heardIn (image c) a (f .chain) o .words ≡ wordsAfter a (replyOf o)
+      go (outcome.Passed x) = refl
+      go (outcome.Refused r) = refl
+
+  frame-done : (a : List ℕ) (key bed : List Float) → frameIn (image c) a key bed ≡ frameDone a (events.port c (frame key bed))
+  frame-done a key bed =
+      let f = frameOf c key bed in
+      let l = frame-left a f (stays c (frame key bed)) in
+      frame-on a key bed ∙ (λ i. record { code = l .0 i; bytes = l .1 i; words = frame-words a f i })
 
 -- ---- lent bytes that are an image, and lent bytes that are none
 
@@ -182,12 +186,10 @@ module _ (c : Chain) (v : Valid c) where
   next-done : (cs : Log (Call Event)) (d : Call Event) → doneBy (lentFrom (image c) cs) d ≡ doneIn (port (chainFrom c cs) d)
   next-done cs d = ap (λ (b : List ℕ). doneBy b d) (held cs) ∙ done (chainFrom c cs) (valid cs) d
 
-  next-answer : (cs : Log (Call Event)) (key bed : List Float) (a : List ℕ) (x : Answer) → port (chainFrom c cs) (event (frame key bed)) .seen .reply ≡ passed (answer (shown x))
-      → frameIn (lentFrom (image c) cs) a key bed .words ≡ answerWords x
-  next-answer cs key bed a x p =
-      ap (λ (b : List ℕ). frameIn b a key bed .words) (held cs)
-      ∙ ap (λ (t : Told). t .words) (frame-on (chainFrom c cs) (valid cs) a key bed)
-      ∙ frame-words (chainFrom c cs) (valid cs) a (frameOf (chainFrom c cs) key bed) x p
+  next-frame : (cs : Log (Call Event)) (key bed : List Float) (a : List ℕ)
+      → frameIn (lentFrom (image c) cs) a key bed ≡ frameDone a (port (chainFrom c cs) (event (frame key bed)))
+  next-frame cs key bed a =
+      ap (λ (b : List ℕ). frameIn b a key bed) (held cs) ∙ frame-done (chainFrom c cs) (valid cs) a key bed
 
 pub lent-laws : LentLaws
 lent-laws = record {
@@ -198,5 +200,5 @@ lent-laws = record {
   bytes = held;
   accepted = λ c v cs. ap codeIn (held c v cs) ∙ image-code (chainFrom c cs) (valid c v cs);
   calls = next-done;
-  answers = next-answer;
+  frames = next-frame;
 }

@@ -8,17 +8,17 @@ use lib.Ieee.{Float}
 use lib.ListN.{length}
 use Rattle.demands.specs.declared.Refusal.the-variants.{WrongLength}
 use Rattle.demands.specs.Table.{numberOf}
-use Rattle.demands.specs.Calls.{Log, empty, _▹_, Call, event, save, restore, Reply, refusal, passed, answer, Step, allCalls}
+use Rattle.demands.specs.Calls.{Log, empty, _▹_, Call, event, save, restore, Reply, refusal, passed, answer, done, Step, allCalls}
 use Rattle.demands.specs.Demands.{from}
-use Rattle.chain.specs.declared.Answer.{Answer}
 use Rattle.chain.specs.declared.Chain.{Chain}
 use Rattle.chain.specs.Chain.{freshOf}
-use Rattle.chain.specs.Rules.{Event, frame, settings, reset, Answered, shown, rules}
+use Rattle.chain.specs.Rules.{Event, frame, settings, reset, Answered, shown, noted, rules}
 use Rattle.chain.specs.Valid.{Valid}
 use Rattle.image.specs.Layout.{imageBytes}
 use Rattle.image.specs.Image.{image}
 use Rattle.image.specs.Port.{images, port}
 use Rattle.words.specs.Words.{answerWords}
+use Rattle.freightpetal_c.specs.Lent as lent
 use Rattle.freightpetal_c.specs.Lent.{Left, freshIn, codeIn, frameIn, setIn, resetIn}
 
 -- ---- a caller's calls on lent bytes
@@ -56,6 +56,16 @@ numberIn (passed g) = 0
 abbrev pub doneIn : Step Chain Answered → Done
 doneIn s = record { code = numberIn (s .seen .reply); beside = s .seen .lent; bytes = image (s .state) }
 
+-- the lent words after a frame: the answer's where it passed, else as they were
+abbrev pub wordsAfter : List ℕ → Reply Answered → List ℕ
+wordsAfter a (refusal n) = a
+wordsAfter a (passed (answer (shown x))) = answerWords x
+wordsAfter a (passed (answer noted)) = a
+wordsAfter a (passed done) = a
+
+abbrev pub frameDone : List ℕ → Step Chain Answered → lent.Answered
+frameDone a s = record { code = numberIn (s .seen .reply); bytes = image (s .state); words = wordsAfter a (s .seen .reply) }
+
 abbrev pub chainFrom : Chain → Log (Call Event) → Chain
 chainFrom c cs = from rules (allCalls rules images) port c cs
 
@@ -73,7 +83,6 @@ pub record LentLaws : Type 0 where
   pub accepted : (c : Chain) → Valid c → (cs : Log (Call Event)) → codeIn (lentFrom (image c) cs) ≡ 0
   -- the next call does what the port's does,
   pub calls : (c : Chain) → Valid c → (cs : Log (Call Event)) (d : Call Event) → doneBy (lentFrom (image c) cs) d ≡ doneIn (port (chainFrom c cs) d)
-  -- and a frame gets the same answer, whatever words were lent for it
-  pub answers : (c : Chain) → Valid c → (cs : Log (Call Event)) (key bed : List Float) (a : List ℕ) (x : Answer)
-      → port (chainFrom c cs) (event (frame key bed)) .seen .reply ≡ passed (answer (shown x))
-      → frameIn (lentFrom (image c) cs) a key bed .words ≡ answerWords x
+  -- and so does a frame, whatever words are lent for its answer
+  pub frames : (c : Chain) → Valid c → (cs : Log (Call Event)) (key bed : List Float) (a : List ℕ)
+      → frameIn (lentFrom (image c) cs) a key bed ≡ frameDone a (port (chainFrom c cs) (event (frame key bed)))
