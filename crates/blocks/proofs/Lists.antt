@@ -10,7 +10,7 @@ use native.Mathlib.Omega.{arith}
 use borrow.Author.Tests.{eq-eqb, ne-eqb, eqb-true}
 use lib.Dec.{eqb}
 use lib.ListN.{length, getD, set, take, drop, replicate, take-append-drop, drop-of-length-le}
-use lib.Seq.{sets, length-sets, sets-eq, set-out, take-suc, take-all, length-take-le, drop-cons}
+use lib.Seq.{sets, length-sets, sets-eq, set-out, take-suc, take-all, take-at, length-take-le, drop-cons}
 use Rattle.blocks.specs.Lists.{laid, Laid, table, Below, same}
 
 -- ---- one laid over another
@@ -62,6 +62,11 @@ unfolding laid
 laid-all l xs e =
     let h : length l ≤ 0 + length xs = omega arith in
     sets-eq xs l 0 (omega arith) ∙ ap (λ (z : List ℕ). xs ++ z) (drop-of-length-le l h) ∙ append-nil xs
+
+-- a list laid over the start of one that is as long or longer
+pub laid-start : (l xs : List ℕ) (n : ℕ) → length xs ≡ n → n ≤ length l → take n (laid l 0 xs) ≡ xs
+unfolding laid
+laid-start l xs n e h = ap (take n) (sets-eq xs l 0 (omega arith)) ∙ take-at xs (drop (0 + length xs) l) n e
 
 -- one run of stores, and another right behind it
 pub next : {l l₁ l₂ xs ys : List ℕ} {i n j : ℕ} → Laid l i xs l₁ → length xs ≡ n → i + n ≡ j → Laid l₁ j ys l₂ → Laid l i (xs ++ ys) l₂

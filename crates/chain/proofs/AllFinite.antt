@@ -47,7 +47,7 @@ counted f blank n count places b c = each blank places (λ k. go k (ltb k count)
     go k true e = c .good k (ltb-true k count e) .0
     go k false e = subst (λ (x : Float). T (finite x)) (sym (c .rest k (ltb-false k count e))) b
 
-zero-finite : T (finite zero64)
+pub zero-finite : T (finite zero64)
 unfolding ofBits
 zero-finite = tt
 

@@ -3,7 +3,7 @@
 use Prim.Native.Nat.{ℕ, zero, suc, _+_}
 use native.Mathlib.Omega.{arith}
 use mathlib.Core.Path.{_≡_, refl, subst, sym, _∙_}
-use mathlib.Core.Bool.{Bool, true, false, cond, _&&_}
+use mathlib.Core.Bool.{Bool, true, false, cond, _&&_, and-true, and-assoc}
 use mathlib.Core.List.{List, [], _∷_, _++_}
 use lib.Dec.{T, ltb}
 use lib.ListN.{length, take, drop}
@@ -30,7 +30,7 @@ use Rattle.detector.proofs.Finished.{samples-all}
 use Rattle.chain.specs.Numbers.{ofSmoothed}
 use Rattle.chain.specs.Numbers as stored
 use Rattle.chain.specs.Runaway.{ofBands, headTails, ofWindow, ofVoicing, ofDetector}
-use Rattle.level.proofs.Finite.{Alls, none, _more_, _and_, all-finite, finite-all, only, and-assoc, parts, new-finite}
+use Rattle.level.proofs.Finite.{Alls, none, _more_, _and_, all-finite, finite-all, only, parts, new-finite}
 use Rattle.chain.proofs.LevelTold.{above-told, above-tells}
 
 -- ---- the lags
@@ -66,14 +66,10 @@ module _ (e : Ends) (sum : Float) where
       go true = refl
       go false = refl
 
-and-nonly : (a : Bool) → a ≡ a && true
-and-nonly true = refl
-and-nonly false = refl
-
 module _ (x : List Float) where
   lags-are : (n lag : ℕ) (e : Ends) → lagsOf x n lag e .finite ≡ e .finite && allFinite (headTails x n lag (e .head) (e .tail))
   unfolding lagsOf lagOf headTails allFinite
-  lags-are zero lag e = and-nonly (e .finite)
+  lags-are zero lag e = sym (and-true (e .finite))
   lags-are (suc n) lag e =
       let g = energiesAt x lag e in
       let r = correlationOf x lag in

@@ -1,9 +1,9 @@
 -- The ducker's flag against the lists: each envelope's flag is that of what it hands to the power, state by state.
 use mathlib.Core.Path.{_≡_, refl, sym, ap, subst, _∙_}
-use mathlib.Core.Bool.{Bool, true, false, cond, _&&_}
+use mathlib.Core.Bool.{Bool, true, false, cond, _&&_, and-true}
 use mathlib.Core.List.{List, [], _∷_, _++_}
 use lib.Dec.{T}
-use lib.Ieee.{Float, neg, ofBits}
+use lib.Ieee.{Float, neg}
 use lib.Ieee.Fits.{and-i, and-l, and-r}
 use lib.Ieee.Scale as scale
 use Rattle.float.specs.Whole.{zero64}
@@ -35,6 +35,7 @@ use Rattle.ratio.specs.Frame.{frameSeconds, snapshotOf, disabledFrame, enabledF
 use Rattle.chain.specs.Numbers.{ofLoops}
 use Rattle.chain.specs.Runaway.{ofShown, ofStatus, byStep, byStretch, slowStep, midStep, fastStep, ducking, releasing, steps, stateOf}
 use Rattle.level.proofs.Finite.{Alls, none, _more_, _and_, all-finite, finite-all, only, all-and, parts}
+use Rattle.chain.proofs.AllFinite.{zero-finite}
 
 three : (a b c : List Float) → allFinite (a ++ b ++ c) ≡ (allFinite a && allFinite b) && allFinite c
 three a b c = all-and (a ++ b) c ∙ ap (λ (x : Bool). x && allFinite c) (all-and a b)
@@ -45,15 +46,11 @@ coeff-are : (tc : Float) → coeffOf tc frameSeconds .finite ≡ allFinite (cond
 unfolding coeffOf allFinite
 coeff-are tc = go (gradual tc frameSeconds)
   where
-    and-none : (a : Bool) → a ≡ a && true
-    and-none true = refl
-    and-none false = refl
-
     chosen : Bool → Coefficient
     chosen b = cond b (record { value = expOf (exponent tc frameSeconds); finite = scale.finite (exponent tc frameSeconds) }) (record { value = zero64; finite = true })
 
     go : (b : Bool) → chosen b .finite ≡ allFinite (cond b (exponent tc frameSeconds ∷ []) [])
-    go true = and-none (scale.finite (exponent tc frameSeconds))
+    go true = sym (and-true (scale.finite (exponent tc frameSeconds)))
     go false = refl
 
 module _ (d : Duck) (state : MixState) where
@@ -219,10 +216,6 @@ pub record Lists (on : Bool) (before : Loops) (d : Duck) (i : Inputs) (f : Frame
   pub stored : Alls (ofLoops (f .loops))
   pub answered : Alls ((f .reduction .0 ∷ []) ++ ofStatus (f .status))
   pub power : Alls (cond on (steps before (f .loops) d (stateOf d i) i) [])
-
-zero-finite : T (scale.finite zero64)
-unfolding ofBits
-zero-finite = tt
 
 module _ (l : Loops) (d : Duck) (i : Inputs) where
   abbrev f : Framed

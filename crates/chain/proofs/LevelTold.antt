@@ -5,7 +5,7 @@ use mathlib.Core.Bool.{Bool, true, false, cond}
 use mathlib.Core.List.{List, [], _∷_, _++_}
 use lib.Dec.{T}
 use lib.ListN.{length}
-use lib.Ieee.{Float, binary64, lt, fits, ofBits}
+use lib.Ieee.{Float, binary64, lt, fits}
 use lib.Ieee.Fits.{add-fits, div-fits, and-i, and-r}
 use lib.Ieee.Scale.{finite}
 use Rattle.float.specs.Choice.{maxOf}
@@ -20,12 +20,9 @@ use Rattle.chain.specs.Runaway.{aboveZero, ofLoudness}
 use Rattle.chain.specs.Numbers.{ofLevel}
 use Rattle.level.proofs.Finite.{Alls, none, _more_, _and_, all-finite, finite-all, only, parts, new-finite}
 use Rattle.level.proofs.Readings.{loudness-finite}
+use Rattle.chain.proofs.AllFinite.{zero-finite}
 
 -- ---- a power, as the flags have it: 0 in place of one that isn't above 0
-
-pub zero-finite : T (finite zero64)
-unfolding ofBits
-zero-finite = tt
 
 -- a number that is handed on, or 0 in its place
 pub handed-told : (b : Bool) (x : Float) → T (finite (cond b x zero64)) → Alls (cond b (x ∷ []) [])

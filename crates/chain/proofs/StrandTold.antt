@@ -34,8 +34,8 @@ use Rattle.vad.specs.Valid.{Valid}
 use Rattle.chain.specs.Numbers.{ofLevel, ofDetector, ofPower, ofDecision, ofStrand}
 use Rattle.chain.specs.Runaway.{ofSpeechLevel, ofState, ofLoudness, ofBands, ofSpeech, toLogarithm, toTen, toRoot, toNarrowing}
 use Rattle.level.proofs.Finite.{Alls, none, _more_, _and_, all-finite, finite-all, parts}
-use Rattle.chain.proofs.AllFinite.{of-level, of-detector}
-use Rattle.chain.proofs.LevelTold.{zero-finite, handed-told, handed-tells, level-told, level-tells}
+use Rattle.chain.proofs.AllFinite.{zero-finite, of-level, of-detector}
+use Rattle.chain.proofs.LevelTold.{handed-told, handed-tells, level-told, level-tells}
 use Rattle.chain.proofs.DetectorTold.{detector-told, detector-tells}
 
 -- ---- what may be absent: nothing, which counts as 0 in the flags

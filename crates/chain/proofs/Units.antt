@@ -9,7 +9,7 @@ use Rattle.demands.specs.declared.Refusal.the-variants.{BadSetting, NoStrand}
 use Rattle.demands.specs.Calls.{Log, empty, _▹_, Reply, answer, passed, Step, gets, Calls, eventCalls}
 use Rattle.demands.specs.Demands.{from, after, sees}
 use Rattle.demands.specs.Dead.{None, First, now, earlier, Fixed, Repeats}
-use Rattle.demands.proofs.Dead.{always-fixed}
+use Rattle.demands.proofs.Dead.{same-answer, always-fixed}
 use Rattle.level.specs.Bs1770.{zero64}
 use Rattle.vad.specs.Strand as strand
 use Rattle.comis.specs.declared.loop_bank.Loops.{Loops}
@@ -75,20 +75,16 @@ forgets (es ▹ settings a) n = ap holding (set-loops (chainAfter es) (a .values
 forgets (es ▹ reset k) n = ap holding (reset-loops (chainAfter es) k) ∙ forgets es (n .0)
 
 -- a frame, by whether the chain remembers
-by-test : (b : Bool) (s t : Step Chain Answered) → b ≡ true → cond b s t ≡ s
-by-test true s t h = refl
-by-test false s t h = absurd (true≢false (sym h))
-
-by-not : (b : Bool) (s t : Step Chain Answered) → b ≡ false → cond b s t ≡ t
-by-not false s t h = refl
-by-not true s t h = absurd (true≢false h)
-
 module _ (c : Chain) (key bed : List Float) where
-  first-frame : remembers c ≡ false → repeating c (frame key bed) ≡ firstFrame c (port c (frame key bed) .seen .reply)
-  first-frame h = by-not (remembers c) _ _ h
+  -- what is remembered, and the chain stays
+  abbrev again : Step Chain Answered
+  again = gets (passed (answer (shown (answering (c .loops .slow))))) [] c
 
-  later-frame : (x : Float) → Keeps c x → repeating c (frame key bed) ≡ gets (passed (answer (shown (answering (c .loops .slow))))) [] c
-  later-frame x k = by-test (remembers c) _ _ (keeps-remembers c x k)
+  first-frame : remembers c ≡ false → repeating c (frame key bed) ≡ firstFrame c (port c (frame key bed) .seen .reply)
+  first-frame h = ap (λ (b : Bool). cond b again (firstFrame c (port c (frame key bed) .seen .reply))) h
+
+  later-frame : (x : Float) → Keeps c x → repeating c (frame key bed) ≡ again
+  later-frame x k = ap (λ (b : Bool). cond b again (firstFrame c (port c (frame key bed) .seen .reply))) (keeps-remembers c x k)
 
 -- a reply that passes is remembered
 keeps-reply : (c : Chain) (r : Reply Answered) (a : Answered) → r ≡ passed (answer a) → Keeps (remembered c r) (reductionOf a)
@@ -118,9 +114,6 @@ keeps : {es bs : Log Event} {f : Event} → First rules isFrame es bs f → (a :
 unfolding from
 keeps (now {bs} {f} n s) a q = begins bs f a n s q
 keeps (earlier {es} {e = e} p) a q = stays (chainAfter es) e (reductionOf a) (keeps p a q)
-
-same-answer : {a b : Answered} → _≡_ {A = Reply Answered} (passed (answer a)) (passed (answer b)) → a ≡ b
-same-answer e = cc
 
 -- a later frame gets what is remembered
 repeated : (c : Chain) (e : Event) (x : Float) (a : Answered) → Keeps c x → isFrame e ≡ true → repeating c e .seen .reply ≡ passed (answer a) → reductionOf a ≡ x

@@ -11,7 +11,10 @@ use Rattle.demands.specs.Demands.{History, stateOf, modelOf, Passes, Sto
 use Rattle.demands.proofs.Events.{onEvents, calls, story-calls}
 use Rattle.demands.specs.Dead.{Lived, First, now, earlier, Passing, TwoStates, TwoAnswers, Moves, Fixed, Repeats, Invents, RefusesAll, always, OneImage, RestoresNothing}
 
--- ---- lists
+-- ---- lists and replies
+
+pub same-answer : {A : Type 0} {a b : A} → _≡_ {A = Reply A} (passed (answer a)) (passed (answer b)) → a ≡ b
+same-answer e = cc
 
 last-inj : {A : Type 0} {l m : Log A} {x y : A} → l ▹ x ≡ m ▹ y → x ≡ y
 last-inj e = cc
@@ -98,9 +101,6 @@ module _ (R : Rules) (port : Port R (eventCalls R)) where
 -- ---- a unit that gives one answer to every event of a sort is fixed, whatever it does with the others
 
 module _ (R : Rules) (sort : R .Event → Bool) (M : Reference R) {View : Type 0} (look : M .Said → View) where
-  same-answer : {a b : R .Answer} → _≡_ {A = Reply (R .Answer)} (passed (answer a)) (passed (answer b)) → a ≡ b
-  same-answer e = cc
-
   -- by the test of the sort
   answered-by : (of : Bool) (a b : R .Answer) (s : R .State) (t : Step (R .State) (R .Answer)) → of ≡ true
       → cond of (gets (passed (answer a)) [] s) t .seen .reply ≡ passed (answer b) → b ≡ a

@@ -6,14 +6,14 @@ use native.Mathlib.Nat.{add-assoc, add-zero, add-suc}
 use native.Mathlib.Omega.{arith}
 use lib.Ieee.{binary32, ofBits}
 use lib.ListN.{length, take, drop, getD, length-append, length-drop, take-append-drop, List·getD-append}
-use lib.Seq.{getD-drop, drop-append-le, drop-drop, drop-at, take-at, take-add, length-take-le, sets-eq}
+use lib.Seq.{getD-drop, drop-append-le, drop-drop, drop-at, take-add, length-take-le}
 use Rattle.blocks.specs.Lists.{laid}
 use Rattle.blocks.specs.Words.{word4}
-use Rattle.blocks.proofs.Lists.{table-ext}
+use Rattle.blocks.proofs.Lists.{table-ext, laid-start}
 use Rattle.demands.specs.Calls.{Log, empty, _▹_}
 use Rattle.chain.specs.declared.Chain.{Chain}
 use Rattle.chain.specs.Chain.{freshOf, frameOf}
-use Rattle.duckline.specs.Line.{strandAt, sampleAt, keyAt, bedAt, lineOf}
+use Rattle.duckline.specs.Line.{bufferBytes, textBytes, strandAt, sampleAt, keyAt, bedAt, lineOf}
 use Rattle.duckline.specs.declared.Run.{Run}
 use Rattle.duckline.specs.Frames.{Ran, heardOf, ranOf, framesIn, keptOf, afterReadIn}
 use Rattle.duckline.proofs.Kept.{kept-length}
@@ -91,13 +91,13 @@ module _ (c : Chain) (n : ℕ) (b got : List ℕ) where
   frames-add : length (b ++ got) / 3840 ≡ first + second
   frames-add = omega (arith, length-append b got, length-append (drop (first * 3840) b) got, length-drop (first * 3840) b)
 
-  pub run-joined : let r = ranOf c n b first in ranOf c n (b ++ got) (length (b ++ got) / 3840) ≡ onward r (ranOf (r .chain) (r .number) left second)
+  run-joined : let r = ranOf c n b first in ranOf c n (b ++ got) (length (b ++ got) / 3840) ≡ onward r (ranOf (r .chain) (r .number) left second)
   run-joined =
       ap (ranOf c n (b ++ got)) frames-add
       ∙ ran-add c n (b ++ got) first second
       ∙ (λ j. let r = ran-append c n b got first frames-whole j in onward r (ranOf (r .chain) (r .number) (left-whole j) second))
 
-  pub held-joined : drop (length (b ++ got) / 3840 * 3840) (b ++ got) ≡ drop (second * 3840) left
+  held-joined : drop (length (b ++ got) / 3840 * 3840) (b ++ got) ≡ drop (second * 3840) left
   held-joined =
       let e : length (b ++ got) / 3840 * 3840 ≡ first * 3840 + second * 3840 = omega (arith, frames-add) in
       ap (λ (m : ℕ). drop m (b ++ got)) e
@@ -116,11 +116,6 @@ same empty = refl
 same (rs ▹ got) = ap (λ (s : Reading). readOf s got) (same rs) ∙ read-joined (joined rs) got
 
 -- ---- what the code does with a read
-
--- a list laid over the start of another
-laid-start : (l xs : List ℕ) (n : ℕ) → length xs ≡ n → n ≤ length l → take n (laid l 0 xs) ≡ xs
-unfolding laid
-laid-start l xs n e h = ap (take n) (sets-eq xs l 0 (omega arith)) ∙ take-at xs (drop (0 + length xs) l) n e
 
 drop-of-take : (m n : ℕ) (l : List ℕ) → m ≤ n → n ≤ length l → drop m (take n l) ≡ take (n - m) (drop m l)
 drop-of-take m n l g h =
@@ -151,12 +146,12 @@ module _ (s : Run) (b t held got : List ℕ) (n : ℕ) (there : n ≤ length b) 
       ∙ ap (λ (m : ℕ). drop (m / 3840 * 3840) (take n b)) (sym taken)
       ∙ ap (λ (x : List ℕ). drop (length x / 3840 * 3840) x) came
 
-  text-read : n ≤ 61440 → length t ≡ 1024 → let r = ranOf (s .chain) (s .number) b whole in take (length (r .text)) (laid t 0 (r .text)) ≡ r .text
+  text-read : n ≤ bufferBytes → length t ≡ textBytes → let r = ranOf (s .chain) (s .number) b whole in take (length (r .text)) (laid t 0 (r .text)) ≡ r .text
   text-read small room =
       let r = ranOf (s .chain) (s .number) b whole in
       laid-start t (r .text) (length (r .text)) refl (omega (arith, ran-length (s .chain) (s .number) b whole))
 
-  pub code-reads : (text : List ℕ) → n ≤ 61440 → length t ≡ 1024
+  code-reads : (text : List ℕ) → n ≤ bufferBytes → length t ≡ textBytes
       → let r = afterReadIn s b n t in
       _≡_ {A = Reading}
       (record {

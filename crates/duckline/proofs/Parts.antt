@@ -1,5 +1,5 @@
 -- The words of a line as they are put, one after the other, and how long a line is at most.
-use mathlib.Core.Path.{_≡_, ap}
+use mathlib.Core.Path.{_≡_}
 use mathlib.Core.Bool.{Bool, true, false, cond}
 use mathlib.Core.List.{List, [], _∷_, _++_, append-assoc}
 use Prim.Native.Nat.{ℕ, _+_, _≤_}
@@ -10,9 +10,9 @@ use Rattle.comis.specs.declared.mix_state.MixState.{MixState}
 use Rattle.comis.specs.declared.mix_state.MixState.the-variants.{ReleaseToUnity, DuckToTarget, InterviewPassthrough, DuckToOvervoice}
 use Rattle.chain.specs.declared.Outcome.{Outcome}
 use Rattle.chain.specs.declared.Outcome.the-variants as outcome
-use Rattle.duckline.specs.Line.{Text, ascii, decimal, line, stateName, activeName, frameWords, lineOf, shortLine, putAt}
+use Rattle.duckline.specs.Line.{ascii, decimal, line, stateName, activeName, frameWords, lineOf, shortLine, putAt}
 use Rattle.duckline.proofs.Digits.{decimal-length}
-use Rattle.duckline.proofs.Put.{text}
+use Rattle.duckline.proofs.Put.{text, promised, put-end}
 
 -- a state's name between two spaces, and a flag with a space behind it
 abbrev pub statePart : MixState → List ℕ
@@ -37,6 +37,9 @@ short-joined d = simp append-assoc
 
 -- ---- the place after a part
 
+pub bytes-end : (t : List ℕ) (at : ℕ) (xs t′ : List ℕ) (end : ℕ) → text t′ end ≡ putAt t at xs → end ≡ at + length xs
+bytes-end t at xs t′ end e = put-end (promised t at xs t′ end e)
+
 state-length : (s : MixState) → length (ascii (stateName s)) ≤ 9
 state-length ReleaseToUnity = omega arith
 state-length DuckToTarget = omega arith
@@ -51,20 +54,17 @@ pub state-end : (t : List ℕ) (at : ℕ) (s : MixState) (t′ : List ℕ) (end 
 state-end t at s t′ end e =
     omega (
       arith,
-      ap (λ (x : Text). x .end) e,
+      bytes-end t at (statePart s) t′ end e,
       length-append (ascii " " ++ ascii (stateName s)) (ascii " "),
       length-append (ascii " ") (ascii (stateName s)),
       state-length s,
     )
 
 pub active-end : (t : List ℕ) (at : ℕ) (b : Bool) (t′ : List ℕ) (end : ℕ) → text t′ end ≡ putAt t at (activePart b) → end ≤ at + 2
-active-end t at b t′ end e = omega (arith, ap (λ (x : Text). x .end) e, length-append (ascii (activeName b)) (ascii " "), active-length b)
+active-end t at b t′ end e = omega (arith, bytes-end t at (activePart b) t′ end e, length-append (ascii (activeName b)) (ascii " "), active-length b)
 
 pub decimal-end : (t : List ℕ) (at n : ℕ) (t′ : List ℕ) (end : ℕ) → text t′ end ≡ putAt t at (decimal n) → end ≤ at + 20
-decimal-end t at n t′ end e = omega (arith, ap (λ (x : Text). x .end) e, decimal-length n)
-
-pub bytes-end : (t : List ℕ) (at : ℕ) (xs t′ : List ℕ) (end : ℕ) → text t′ end ≡ putAt t at xs → end ≡ at + length xs
-bytes-end t at xs t′ end e = ap (λ (x : Text). x .end) e
+decimal-end t at n t′ end e = omega (arith, bytes-end t at (decimal n) t′ end e, decimal-length n)
 
 -- ---- a whole line
 

@@ -5,7 +5,7 @@ use lib.Ieee.{Float}
 use lib.ListN.{length, take, drop}
 use Rattle.blocks.specs.Lists.{laid}
 use Rattle.chain.specs.declared.Chain.{Chain}
-use Rattle.chain.specs.Chain.{frameOf}
+use Rattle.chain.specs.Chain.{freshOf, frameOf}
 use Rattle.duckline.specs.Line.{frameBytes, keyAt, bedAt, lineOf}
 use Rattle.duckline.specs.declared.Run.{Run}
 use Rattle.duckline.specs.declared.Next.{Next}
@@ -26,6 +26,12 @@ heardOf r key bed =
 unfoldable pub ranOf : Chain → ℕ → List ℕ → ℕ → Ran
 ranOf c n b zero = record { chain = c; number = n; text = [] }
 ranOf c n b (suc k) = heardOf (ranOf c n b k) (keyAt b k) (bedAt b k)
+
+-- ---- a run, as the program keeps it
+
+-- a fresh chain, and frames are counted from 1
+abbrev pub freshRun : Run
+freshRun = record { chain = freshOf; number = 1; end = 0 }
 
 -- a run and its lent text
 pub record Written : Type 0 where

@@ -27,6 +27,13 @@ strandBytes = 1920
 abbrev pub frameBytes : ℕ
 frameBytes = 3840
 
+-- bytes of the buffer: 16 frames; and of the text of their lines, at most 64 each
+abbrev pub bufferBytes : ℕ
+bufferBytes = 61440
+
+abbrev pub textBytes : ℕ
+textBytes = 1024
+
 -- the sample that four bytes from place i on stand for: binary32, the lowest byte first
 abbrev pub sampleAt : List ℕ → ℕ → Float
 sampleAt b i = ofBits binary32 (word4 b i)

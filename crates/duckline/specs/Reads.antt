@@ -5,9 +5,8 @@ use Prim.Native.Nat.{ℕ, _*_, _/_, _≤_}
 use lib.ListN.{length, take, drop}
 use Rattle.demands.specs.Calls.{Log, empty, _▹_}
 use Rattle.chain.specs.declared.Chain.{Chain}
-use Rattle.chain.specs.Chain.{freshOf}
-use Rattle.duckline.specs.Line.{frameBytes, shortLine}
-use Rattle.duckline.specs.Frames.{ranOf, afterReadIn}
+use Rattle.duckline.specs.Line.{frameBytes, bufferBytes, textBytes, shortLine}
+use Rattle.duckline.specs.Frames.{freshRun, ranOf, afterReadIn}
 use Rattle.duckline.specs.declared.Run.{Run}
 
 -- duckline between two reads: the chain, the number of the frame that comes next, the bytes that are held, and all text so far
@@ -18,7 +17,7 @@ pub record Reading : Type 0 where
   pub text : List ℕ
 
 abbrev pub beginning : Reading
-beginning = record { chain = freshOf; number = 1; held = []; text = [] }
+beginning = record { chain = freshRun .chain; number = freshRun .number; held = []; text = [] }
 
 -- a read brings some bytes: the whole frames among those that are there now get their lines, and the rest is held
 unfoldable pub readOf : Reading → List ℕ → Reading
@@ -54,7 +53,7 @@ pub record AnyReads : Type 0 where
   pub written : (rs : Log (List ℕ)) → writtenOf (readsOf rs) ≡ outputOf (joined rs)
   -- The code does with a read what `readOf` says. The first n bytes of the buffer are those that were held and those that came; the text has room
   -- for 16 lines of 64 bytes, and begins with the new ones.
-  pub code : (s : Run) (b t held got text : List ℕ) (n : ℕ) → n ≤ length b → n ≤ 61440 → length t ≡ 1024 → take n b ≡ held ++ got
+  pub code : (s : Run) (b t held got text : List ℕ) (n : ℕ) → n ≤ length b → n ≤ bufferBytes → length t ≡ textBytes → take n b ≡ held ++ got
       → let r = afterReadIn s b n t in
       record {
         chain = r .next .run .chain;

@@ -3,7 +3,7 @@ ghost use mathlib.Core.Path.{_≡_};
 ghost use Prim.Native.Nat.{_+_, _*_, _≤_, _<_};
 ghost use lib.ListN.{length, take};
 ghost use Rattle.blocks.specs.Words.{word2};
-ghost use Rattle.duckline.specs.Line.{sampleAt, strandAt, keyAt, bedAt};
+ghost use Rattle.duckline.specs.Line.{strandBytes, frameBytes, bufferBytes, sampleAt, strandAt, keyAt, bedAt};
 ghost use Rattle.duckline.specs.Frames.{keptOf};
 use libc::STDIN_FILENO;
 
@@ -20,7 +20,7 @@ pub const FRAME: usize = 3840;
 pub const BUFFER: usize = 61440;
 
 pub fn buffer() -> [u8; BUFFER]
-    ensures { λ r. ⌜ 61440 ≡ length r ⌝ }
+    ensures { λ r. ⌜ bufferBytes ≡ length r ⌝ }
 {
     [0; BUFFER]
 }
@@ -33,7 +33,7 @@ fn wide(b: u8) -> u32
 
 // The 16 bits at `at`, the low byte first. Of two halves the compiler reads a sample's four bytes at once.
 fn half(buffer: &[u8; BUFFER], at: usize) -> u32
-    requires { ⌜ at + 2 ≤ 61440 ⌝ }
+    requires { ⌜ at + 2 ≤ bufferBytes ⌝ }
     ensures { λ r. ⌜ (r ≡ word2 (now (buffer .entry)) at) × (r < 65536) ⌝ }
 {
     wide(buffer[at]) + wide(buffer[at + 1]) * 256
@@ -41,7 +41,7 @@ fn half(buffer: &[u8; BUFFER], at: usize) -> u32
 
 // The sample whose first byte is at `at`.
 fn sample(buffer: &[u8; BUFFER], at: usize) -> f32
-    requires { ⌜ at + 4 ≤ 61440 ⌝ }
+    requires { ⌜ at + 4 ≤ bufferBytes ⌝ }
     ensures { λ r. ⌜ r ≡ sampleAt (now (buffer .entry)) at ⌝ }
 {
     float::from_bits32(half(buffer, at) + half(buffer, at + 2) * 65536)
@@ -55,7 +55,7 @@ fn no_samples() -> [f32; SAMPLES]
 
 // The strand whose first byte is at `first`.
 fn strand(buffer: &[u8; BUFFER], first: usize) -> [f32; SAMPLES]
-    requires { ⌜ first + 1920 ≤ 61440 ⌝ }
+    requires { ⌜ first + strandBytes ≤ bufferBytes ⌝ }
     ensures { λ r. ⌜ r ≡ strandAt (now (buffer .entry)) first ⌝ }
 {
     let mut x = no_samples();
@@ -98,7 +98,7 @@ pub fn read(buffer: &mut [u8], held: usize) -> usize
 
 // Moves what is held behind `count` frames to the start: how many bytes these are.
 pub fn keep(buffer: &mut [u8], count: usize, held: usize) -> usize
-    requires { ⌜ (count * 3840 ≤ held) × (held ≤ length (now buffer)) ⌝ }
+    requires { ⌜ (count * frameBytes ≤ held) × (held ≤ length (now buffer)) ⌝ }
     ensures { λ r. ⌜ record { bytes = now (buffer .exit); held = r } ≡ keptOf (now (buffer .entry)) count held ⌝ }
 {
     let first = count * FRAME;

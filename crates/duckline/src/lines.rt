@@ -3,7 +3,7 @@ ghost use mathlib.Core.Path.{_≡_};
 ghost use Prim.Native.Nat.{_+_, _≤_};
 ghost use mathlib.Core.List.{_++_};
 ghost use lib.ListN.{length};
-ghost use Rattle.duckline.specs.Line.{ascii, decimal, line, stateName, activeName, hundredthsOf, answerWords, lineOf, shortLine, putAt};
+ghost use Rattle.duckline.specs.Line.{textBytes, ascii, decimal, line, stateName, activeName, hundredthsOf, answerWords, lineOf, shortLine, putAt};
 use chain::Answer;
 use chain::Outcome;
 use comis::mix_state::MixState;
@@ -14,7 +14,7 @@ pub const TEXT: usize = 1024;
 
 // Puts bytes at a place of the text, and answers the place after them.
 fn put(text: &mut [u8; TEXT], at: usize, bytes: &[u8]) -> usize
-    requires { ⌜ at + length (now bytes) ≤ 1024 ⌝ }
+    requires { ⌜ at + length (now bytes) ≤ textBytes ⌝ }
     ensures { λ r. ⌜ record { bytes = now (text .exit); end = r } ≡ putAt (now (text .entry)) at (now (bytes .entry)) ⌝ }
 {
     let mut k: usize = 0;
@@ -27,7 +27,7 @@ fn put(text: &mut [u8; TEXT], at: usize, bytes: &[u8]) -> usize
 
 // A number: at most 20 bytes.
 fn put_number(text: &mut [u8; TEXT], at: usize, n: u64) -> usize
-    requires { ⌜ at + 20 ≤ 1024 ⌝ }
+    requires { ⌜ at + 20 ≤ textBytes ⌝ }
     ensures { λ r. ⌜ record { bytes = now (text .exit); end = r } ≡ putAt (now (text .entry)) at (decimal n) ⌝ }
 {
     let mut digits = [0u8; 20];
@@ -37,7 +37,7 @@ fn put_number(text: &mut [u8; TEXT], at: usize, n: u64) -> usize
 
 // A state's name between two spaces: at most 11 bytes.
 fn put_state(text: &mut [u8; TEXT], at: usize, state: MixState) -> usize
-    requires { ⌜ at + 11 ≤ 1024 ⌝ }
+    requires { ⌜ at + 11 ≤ textBytes ⌝ }
     ensures { λ r. ⌜ record { bytes = now (text .exit); end = r } ≡ putAt (now (text .entry)) at (ascii " " ++ ascii (stateName state) ++ ascii " ") ⌝ }
 {
     match state {
@@ -50,7 +50,7 @@ fn put_state(text: &mut [u8; TEXT], at: usize, state: MixState) -> usize
 
 // Whether speech is active, and a space.
 fn put_active(text: &mut [u8; TEXT], at: usize, active: bool) -> usize
-    requires { ⌜ at + 2 ≤ 1024 ⌝ }
+    requires { ⌜ at + 2 ≤ textBytes ⌝ }
     ensures { λ r. ⌜ record { bytes = now (text .exit); end = r } ≡ putAt (now (text .entry)) at (ascii (activeName active) ++ ascii " ") ⌝ }
 {
     if active {
@@ -59,7 +59,7 @@ fn put_active(text: &mut [u8; TEXT], at: usize, active: bool) -> usize
     put(text, at, b"0 ")
 }
 
-// A rounded reduction, dB, in hundredths: as the cast `as u64`.
+// A rounded reduction, dB, in hundredths, cast as Rust's `as u64` does.
 fn hundredths(reduction: f64) -> u64
     ensures { λ r. ⌜ r ≡ hundredthsOf reduction ⌝ }
 {
@@ -75,7 +75,7 @@ fn hundredths(reduction: f64) -> u64
 
 // What follows a frame's number: at most 36 bytes.
 fn put_answer(text: &mut [u8; TEXT], at: usize, a: Answer) -> usize
-    requires { ⌜ at + 36 ≤ 1024 ⌝ }
+    requires { ⌜ at + 36 ≤ textBytes ⌝ }
     ensures { λ r. ⌜ record { bytes = now (text .exit); end = r } ≡ putAt (now (text .entry)) at (ascii " " ++ line (answerWords a)) ⌝ }
 {
     let status = a.status;
@@ -90,7 +90,7 @@ fn put_answer(text: &mut [u8; TEXT], at: usize, a: Answer) -> usize
 
 // A frame's line, at most 64 bytes.
 pub fn frame(text: &mut [u8; TEXT], at: usize, number: u64, outcome: Outcome) -> usize
-    requires { ⌜ at + 64 ≤ 1024 ⌝ }
+    requires { ⌜ at + 64 ≤ textBytes ⌝ }
     ensures { λ r. ⌜ record { bytes = now (text .exit); end = r } ≡ putAt (now (text .entry)) at (lineOf number outcome) ⌝ }
 {
     let middle = put_number(text, at, number);
@@ -118,7 +118,7 @@ pub fn short(text: &mut [u8; TEXT], left: usize) -> usize
 
 // Writes the first n bytes of the text, and answers whether that could be done.
 pub fn write(text: &[u8; TEXT], n: usize) -> bool
-    requires { ⌜ n ≤ 1024 ⌝ }
+    requires { ⌜ n ≤ textBytes ⌝ }
 {
     let whole: &[u8] = text;
     io::write_all(STDOUT_FILENO, &whole[..n])

@@ -5,7 +5,8 @@ mod lines;
 
 ghost use mathlib.Core.Path.{_≡_};
 ghost use Prim.Native.Nat.{_≤_};
-ghost use Rattle.duckline.specs.Frames.{framesIn, afterReadIn};
+ghost use Rattle.duckline.specs.Frames.{freshRun, framesIn, afterReadIn};
+ghost use Rattle.duckline.specs.Line.{bufferBytes};
 ghost use Rattle.duckline.specs.Reads.{AnyReads};
 use chain::Chain;
 use input::BUFFER;
@@ -17,6 +18,17 @@ pub struct Run {
     pub chain: Chain,
     pub number: u64,
     pub end: usize,
+}
+
+// A fresh chain; frames are counted from 1.
+fn fresh_run() -> Run
+    ensures { λ r. ⌜ r ≡ freshRun ⌝ }
+{
+    Run {
+        chain: Chain::new(),
+        number: 1,
+        end: 0,
+    }
 }
 
 // The frames at the start of the buffer; their lines, at the start of the text.
@@ -51,7 +63,7 @@ pub struct Next {
 // What a read leads to: `held` bytes are at the start of the buffer. The whole frames among them get their lines, and what is left goes to the
 // start.
 fn after_read(run: Run, buffer: &mut [u8; BUFFER], held: usize, text: &mut [u8; TEXT]) -> Next
-    requires { ⌜ held ≤ 61440 ⌝ }
+    requires { ⌜ held ≤ bufferBytes ⌝ }
     ensures { λ r. ⌜ record { next = r; buffer = now (buffer .exit); text = now (text .exit) } ≡ afterReadIn run (now (buffer .entry)) held (now (text .entry)) ⌝ }
 {
     let count = held / FRAME;
@@ -65,11 +77,7 @@ fn after_read(run: Run, buffer: &mut [u8; BUFFER], held: usize, text: &mut [u8; 
 
 // All of the input, and how many bytes are left over.
 fn all_frames(buffer: &mut [u8; BUFFER], text: &mut [u8; TEXT]) -> usize {
-    let mut run = Run {
-        chain: Chain::new(),
-        number: 1,
-        end: 0,
-    };
+    let mut run = fresh_run();
     let mut held: usize = 0;
     let mut turns = u64::MAX;
     while 0 < turns {

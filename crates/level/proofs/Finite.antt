@@ -2,7 +2,7 @@
 use Prim.Native.Nat.{ℕ, zero, suc, _-_, _≤_, _<_}
 use native.Mathlib.Omega.{arith}
 use mathlib.Core.Path.{_≡_, refl, sym, ap, subst, _∙_}
-use mathlib.Core.Bool.{Bool, true, false, _&&_}
+use mathlib.Core.Bool.{Bool, _&&_, and-assoc}
 use mathlib.Core.List.{List, [], _∷_, _++_}
 use lib.Dec.{T}
 use lib.ListN.{length, getD, drop, length-append}
@@ -50,10 +50,6 @@ none and k = k
 pub parts : (xs : List Float) {ys : List Float} → Alls (xs ++ ys) → Alls xs × Alls ys
 parts [] h = (none, h)
 parts (x ∷ xs) (h more hs) = let r = parts xs hs in (h more r .0, r .1)
-
-pub and-assoc : (a b c : Bool) → (a && b) && c ≡ a && (b && c)
-and-assoc true b c = refl
-and-assoc false b c = refl
 
 pub all-and : (xs ys : List Float) → allFinite (xs ++ ys) ≡ allFinite xs && allFinite ys
 unfolding allFinite

@@ -12,8 +12,8 @@ Inv-loop buffer₀ text₀ run₀ held₀ turns₀ buffer text run held turns = 
 abbrev μ-loop : tie.MeasureT-loop
 μ-loop buffer₀ text₀ run₀ held₀ turns₀ buffer text run held turns = turns
 
-new-requires : tie.Need-new-requires Inv-loop μ-loop
-new-requires c κs = search needs
+fresh-run-requires : tie.Need-fresh-run-requires Inv-loop μ-loop
+fresh-run-requires c κs = search needs
 
 loop-holds : tie.Need-loop-holds Inv-loop μ-loop
 loop-holds c = search needs
@@ -54,7 +54,7 @@ all-frames-spec =
     (tie.spec
     Inv-loop
     μ-loop
-    new-requires
+    fresh-run-requires
     loop-holds
     read-requires
     returns
