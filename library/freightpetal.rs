@@ -31,7 +31,7 @@ extern "C" {
     fn freightpetal_reset(image: *mut u8, bytes: usize, strand: u64) -> u64;
 }
 
-/// Document 01's refusals, 1 to 9.
+/// The specification's refusals, 1 to 9.
 #[derive(Debug, Clone, Copy, PartialEq, Eq)]
 #[repr(u64)]
 pub enum Refusal {

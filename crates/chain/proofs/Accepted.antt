@@ -6,16 +6,16 @@ use lib.Dec.{T, eqb}
 use lib.ListN.{length}
 use lib.Ieee.{Float}
 use borrow.Author.Tests.{eqb-true}
-use Rattle.demands.specs.declared.Refusal.the-variants.{ShortFrame, BadSample, BadSetting, Runaway, CounterFull}
-use Rattle.demands.specs.Table.{_means_}
+use Rattle.refusal.specs.declared.Refusal.the-variants.{ShortFrame, BadSample, BadSetting, Runaway, CounterFull}
+use Rattle.refusal.specs.Table.{_means_}
 use Rattle.demands.proofs.Table.{first-passes}
 use Rattle.level.specs.Bs1770.{frameLength}
-use Rattle.level.specs.Finite.{allFinite}
+use Rattle.float.specs.AllFinite.{allFinite}
 use Rattle.chain.specs.declared.Settings.{Settings}
 use Rattle.chain.specs.declared.Chain.{Chain}
 use Rattle.chain.specs.Settings.{callRanges, outsideSettings}
 use Rattle.chain.specs.Chain.{workOf, finiteIn, fullIn}
-use Rattle.chain.specs.Strands.{Whole}
+use Rattle.chain.specs.StrandFrames.{Whole}
 use Rattle.chain.specs.Rules.{shortFrame, badSample, frameNumber, settingsNumber}
 
 -- ---- tests

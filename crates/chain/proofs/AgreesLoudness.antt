@@ -10,8 +10,8 @@ use Rattle.demands.specs.Calls.{Log, empty, _▹_}
 use Rattle.demands.specs.Laws.{Agrees}
 use Rattle.level.specs.declared.Level.{Level}
 use Rattle.level.specs.declared.Reading.{Reading}
-use Rattle.level.specs.Bs1770.{frameLength, floorLufs, shortTerm}
-use Rattle.level.specs.Finite.{allFinite}
+use Rattle.level.specs.Bs1770.{frameLength, shortTerm}
+use Rattle.float.specs.AllFinite.{allFinite}
 use Rattle.level.specs.Weighing.{cleanOf}
 use Rattle.level.specs.Level as level
 use Rattle.level.specs.Heard.{Whole, heard, levelAfter, bs1770}
@@ -23,7 +23,7 @@ use Rattle.vad.specs.Strand as strand
 use Rattle.float.specs.declared.Lufs.{Lufs}
 use Rattle.comis.specs.declared.Shown.the-variants as is
 use Rattle.comis.specs.declared.loop_bank.Loops.{Loops}
-use Rattle.comis.specs.Engine.{silence}
+use Rattle.float.specs.Silence.{silenceLufs}
 use Rattle.ratio.specs.declared.Duck.{Duck}
 use Rattle.ratio.specs.declared.Inputs.{Inputs}
 use Rattle.ratio.specs.Status as ratio
@@ -92,14 +92,10 @@ module _ (t : Strand) (xs f : List Float) (s : VadSettings) (h : Heard (t .level
 
 -- ---- what the ducker shows of it
 
-silence-floor : silence ≡ floorLufs
-unfolding neg ofBits
-silence-floor = refl
-
 -- -100 and below is silence, and all else is to a tenth
-reading-shown : (l : Lufs) → ratio.readingOf l ≡ cond (lt floorLufs (l .0)) (is.Level (tenthsOf (l .0))) is.Silence
+reading-shown : (l : Lufs) → ratio.readingOf l ≡ cond (lt silenceLufs (l .0)) (is.Level (tenthsOf (l .0))) is.Silence
 unfolding ratio.readingOf tenthsOf
-reading-shown l = ap (λ (x : Float). cond (lt x (l .0)) (is.Level (ratio.tenths (l .0))) is.Silence) silence-floor
+reading-shown l = refl
 
 module _ (l : Loops) (d : Duck) (i : Inputs) where
   dialogue-shown : frames.frameOf l d i .status .«dialogue_lufs» ≡ cond (d .enabled) (ratio.readingOf (i .«dialogue_short_term»)) is.Silence
@@ -183,7 +179,7 @@ module _ (c : Chain) (h : Log Event) (l : Like c h) (key bed : List Float) (a : 
   -- a loudness that the ducker is given, as it shows it
   shown-by : (l′ : Lufs) (xs : List Float) → l′ .0 ≡ shortTerm xs → cond (c .settings .duck .enabled) (ratio.readingOf l′) is.Silence ≡ readingOf (enabledIn h) xs
   shown-by l′ xs e =
-      (λ i. cond (l .enabled i) (reading-shown l′ i) is.Silence) ∙ ap (λ (x : Float). cond (enabledIn h) (cond (lt floorLufs x) (is.Level (tenthsOf x)) is.Silence) is.Silence) e
+      (λ i. cond (l .enabled i) (reading-shown l′ i) is.Silence) ∙ ap (λ (x : Float). cond (enabledIn h) (cond (lt silenceLufs x) (is.Level (tenthsOf x)) is.Silence) is.Silence) e
 
   frame-says : part (shown (answerOf (workOf c key bed))) ≡ says h (frame key bed)
   unfolding workOf inputsOf

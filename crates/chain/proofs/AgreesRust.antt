@@ -17,7 +17,7 @@ use Rattle.vad.specs.Agrees as vad
 use Rattle.vad.proofs.Rust.{push-state, push-agrees, fresh-agrees, reset-agrees}
 use Rattle.comis.specs.declared.mix_state.MixState.the-variants.{ReleaseToUnity}
 use Rattle.comis.specs.declared.engine.AutomixEngineConfig.{AutomixEngineConfig}
-use Rattle.comis.specs.LoopBank.{one64}
+use Rattle.float.specs.Arithmetic.{one64}
 use Rattle.ratio.specs.declared.Duck.{Duck}
 use Rattle.ratio.specs.declared.Inputs.{Inputs}
 use Rattle.ratio.specs.Lists.{DuckStored}

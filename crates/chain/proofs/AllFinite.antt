@@ -10,8 +10,8 @@ use lib.Ieee.Scale.{finite}
 use borrow.Author.Tests.{ltb-true, ltb-false}
 use Rattle.float.specs.Valid.{Num}
 use Rattle.sequence.specs.Counted.{Counted}
-use Rattle.level.specs.Bs1770.{zero64}
-use Rattle.level.specs.Finite.{allFinite}
+use Rattle.float.specs.Arithmetic.{zero64}
+use Rattle.float.specs.AllFinite.{allFinite}
 use Rattle.level.specs.declared.Level.{Level}
 use Rattle.level.specs.Valid as level
 use Rattle.detector.specs.declared.FeatureDetector.{FeatureDetector}

@@ -7,7 +7,7 @@ use borrow.Author.Tests.{eqb-true}
 use lib.ListN.{length}
 use lib.Ieee.{Float}
 use Rattle.level.specs.Bs1770.{frameLength}
-use Rattle.level.specs.Finite.{allFinite}
+use Rattle.float.specs.AllFinite.{allFinite}
 use Rattle.level.specs.declared.Level.{Level}
 use Rattle.level.specs.Weighing as weighing
 use Rattle.level.specs.Level as level
@@ -20,7 +20,7 @@ use Rattle.vad.specs.declared.VadSettings.{VadSettings}
 use Rattle.vad.specs.declared.Strand.{Strand}
 use Rattle.vad.specs.Strand as strand
 use Rattle.chain.proofs.Accepted.{both, told}
-use Rattle.chain.specs.Strands.{Whole, finishedOf, strandOf}
+use Rattle.chain.specs.StrandFrames.{Whole, finishedOf, strandOf}
 
 module _ (xs : List Float) (n : length xs ≡ frameLength) (ok : T (allFinite xs)) where
   level-apart : (l : Level) → level.finishOf (foldl weighing.stepOf (level.startOf l) (filters.samplesOf xs)) (l .powers) frameLength ≡ level.frameOf l xs

@@ -8,8 +8,9 @@ use Rattle.demands.specs.Calls.{empty, _▹_}
 use Rattle.demands.specs.Demands.{History, stateOf, modelOf}
 use Rattle.demands.specs.Dead.{Lived, now, earlier, Passing, TwoAnswers, Moves}
 use Rattle.demands.proofs.Dead as dead
-use Rattle.level.specs.Bs1770.{zero64, one64, frameLength}
-use Rattle.level.specs.Finite.{allFinite}
+use Rattle.level.specs.Bs1770.{frameLength}
+use Rattle.float.specs.Arithmetic.{zero64, one64}
+use Rattle.float.specs.AllFinite.{allFinite}
 use Rattle.chain.specs.declared.Chain.{Chain}
 use Rattle.chain.specs.declared.Worked.{Worked}
 use Rattle.chain.specs.Settings.{storedOf}

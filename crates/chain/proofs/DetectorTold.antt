@@ -12,8 +12,8 @@ use lib.Ieee.Fits.{and-i, and-l, and-r}
 use lib.Ieee.Scale.{finite}
 use Rattle.root.specs.Root.{sqrtOf}
 use Rattle.sequence.specs.History.{latest, held}
-use Rattle.level.specs.Bs1770.{_⊗_, _⊘_}
-use Rattle.level.specs.Finite.{allFinite}
+use Rattle.float.specs.Arithmetic.{_⊗_, _⊘_}
+use Rattle.float.specs.AllFinite.{allFinite}
 use Rattle.detector.specs.declared.Ends.{Ends}
 use Rattle.detector.specs.declared.Bands.{Bands}
 use Rattle.detector.specs.declared.Floor.{Floor}

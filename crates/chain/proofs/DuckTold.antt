@@ -6,10 +6,9 @@ use lib.Dec.{T}
 use lib.Ieee.{Float, neg}
 use lib.Ieee.Fits.{and-i, and-l, and-r}
 use lib.Ieee.Scale as scale
-use Rattle.float.specs.Whole.{zero64}
 use Rattle.float.specs.Choice.{clampOf}
-use Rattle.level.specs.Bs1770.{_⊕_, _⊖_}
-use Rattle.level.specs.Finite.{allFinite}
+use Rattle.float.specs.Arithmetic.{_⊕_, _⊖_, zero64}
+use Rattle.float.specs.AllFinite.{allFinite}
 use Rattle.comis.specs.declared.Shown.{Shown}
 use Rattle.comis.specs.declared.Shown.the-variants as shown
 use Rattle.comis.specs.declared.mix_state.MixState.{MixState}

@@ -11,16 +11,16 @@ use lib.Ieee.Bits.{is-true}
 use lib.Ieee.Fits.{and-i, and-l, and-r}
 use native.Mathlib.Omega.{arith}
 use borrow.Author.Tests.{eq-eqb, eqb-true}
-use Rattle.demands.specs.declared.Refusal.the-variants.{Runaway}
-use Rattle.demands.specs.Table.{numberOf, firstNumber}
+use Rattle.refusal.specs.declared.Refusal.the-variants.{Runaway}
+use Rattle.refusal.specs.Table.{numberOf, firstNumber}
 use Rattle.level.specs.Bs1770.{frameLength}
-use Rattle.level.specs.Finite.{allFinite}
+use Rattle.float.specs.AllFinite.{allFinite}
 use Rattle.chain.specs.declared.Chain.{Chain}
 use Rattle.chain.specs.declared.Outcome.{Outcome}
 use Rattle.chain.specs.declared.Outcome.the-variants as outcome
 use Rattle.chain.specs.declared.Worked.{Worked}
 use Rattle.chain.specs.Chain.{inputsOf, workOf, answerOf, refusedOf, passedOf, finiteIn, fullIn, judgedOf, frameOf}
-use Rattle.chain.specs.Strands.{Whole}
+use Rattle.chain.specs.StrandFrames.{Whole}
 use Rattle.chain.specs.Valid.{Valid}
 use Rattle.chain.specs.Numbers.{ofSettings, ofStrand, numbersOf}
 use Rattle.chain.specs.Rules.{frameNumber}

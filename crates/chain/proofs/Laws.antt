@@ -1,17 +1,17 @@
--- The three functions do what document 01's rules say, call by call: demands' laws of events.
+-- The three functions do what the specification's rules say, call by call: demands' laws of events.
 use mathlib.Core.Path.{_≡_, refl}
 use mathlib.Core.Bool.{Bool, true, false, not, cond, _&&_, _||_}
 use mathlib.Core.List.{List, [], _∷_}
 use lib.Dec.{eqb}
 use lib.ListN.{length}
 use native.Mathlib.Omega.{arith}
-use Rattle.demands.specs.declared.Refusal.the-variants.{ShortFrame, BadSample, BadSetting, Runaway, CounterFull, NoStrand}
-use Rattle.demands.specs.Table.{InTable, Row, _means_, firstNumber}
+use Rattle.refusal.specs.declared.Refusal.the-variants.{ShortFrame, BadSample, BadSetting, Runaway, CounterFull, NoStrand}
+use Rattle.refusal.specs.Table.{InTable, Row, _means_, firstNumber}
 use Rattle.demands.specs.Calls.{answer, refusal, passed, gets}
 use Rattle.demands.specs.Laws.{EventLaws}
 use Rattle.demands.proofs.Table.{first-in-table}
 use Rattle.level.specs.Bs1770.{frameLength}
-use Rattle.level.specs.Finite.{allFinite}
+use Rattle.float.specs.AllFinite.{allFinite}
 use Rattle.vad.specs.Strand as strand
 use Rattle.chain.specs.declared.Chain.{Chain}
 use Rattle.chain.specs.declared.Worked.{Worked}

@@ -9,8 +9,9 @@ use lib.Ieee.{Float, binary64, lt, fits}
 use lib.Ieee.Fits.{add-fits, div-fits, and-i, and-r}
 use lib.Ieee.Scale.{finite}
 use Rattle.float.specs.Choice.{maxOf}
-use Rattle.level.specs.Bs1770.{zero64, loudness}
-use Rattle.level.specs.Finite.{allFinite}
+use Rattle.level.specs.Bs1770.{loudness}
+use Rattle.float.specs.Arithmetic.{zero64}
+use Rattle.float.specs.AllFinite.{allFinite}
 use Rattle.level.specs.declared.Level.{Level}
 use Rattle.level.specs.Weighing.{runOf}
 use Rattle.level.specs.Deque.{joint}

@@ -11,7 +11,7 @@ use Rattle.demands.specs.Laws.{Stores}
 use Rattle.sequence.specs.History.{latest, held, filled}
 use Rattle.sequence.specs.Counted.{Counted}
 use Rattle.sequence.proofs.Counted.{counted-length, counted-filled}
-use Rattle.level.specs.Bs1770.{zero64}
+use Rattle.float.specs.Arithmetic.{zero64}
 use Rattle.level.specs.declared.Level.{Level}
 use Rattle.level.specs.Deque.{Meter, meterOf}
 use Rattle.level.specs.Valid as level

@@ -5,7 +5,7 @@ use mathlib.Core.List.{List, _∷_, _++_, map, foldl}
 use lib.ListN.{length, replicate}
 use lib.Ieee.{Float, size, round, add, sum, sub, mul, ofBits}
 use Rattle.biquad.specs.Tick.{tickOf}
-use Rattle.level.specs.Bs1770.{zero64}
+use Rattle.float.specs.Arithmetic.{zero64}
 use Rattle.level.specs.declared.Framed as metered
 use Rattle.level.specs.declared.Weighing.{Weighing}
 use Rattle.level.specs.Weighing as weighing

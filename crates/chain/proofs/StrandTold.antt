@@ -7,8 +7,8 @@ use lib.ListN.{length}
 use lib.Ieee.{Float, lt}
 use lib.Ieee.Fits.{and-i, and-l, and-r}
 use lib.Ieee.Scale.{finite}
-use Rattle.level.specs.Bs1770.{zero64}
-use Rattle.level.specs.Finite.{allFinite}
+use Rattle.float.specs.Arithmetic.{zero64}
+use Rattle.float.specs.AllFinite.{allFinite}
 use Rattle.level.specs.Level as level
 use Rattle.level.specs.declared.Framed as metered
 use Rattle.level.specs.declared.Reading.{Reading}

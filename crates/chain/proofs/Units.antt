@@ -5,12 +5,12 @@ use mathlib.Core.Bool.{Bool, true, false, cond, true≢false}
 use mathlib.Core.List.{List, []}
 use lib.Dec.{eqb}
 use lib.Ieee.{Float, lt, ofBits}
-use Rattle.demands.specs.declared.Refusal.the-variants.{BadSetting, NoStrand}
+use Rattle.refusal.specs.declared.Refusal.the-variants.{BadSetting, NoStrand}
 use Rattle.demands.specs.Calls.{Log, empty, _▹_, Reply, answer, passed, Step, gets, Calls, eventCalls}
 use Rattle.demands.specs.Demands.{from, after, sees}
 use Rattle.demands.specs.Dead.{None, First, now, earlier, Fixed, Repeats}
 use Rattle.demands.proofs.Dead.{same-answer, always-fixed}
-use Rattle.level.specs.Bs1770.{zero64}
+use Rattle.float.specs.Arithmetic.{zero64}
 use Rattle.vad.specs.Strand as strand
 use Rattle.comis.specs.declared.loop_bank.Loops.{Loops}
 use Rattle.chain.specs.declared.Chain.{Chain}

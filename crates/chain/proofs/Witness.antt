@@ -15,8 +15,9 @@ use Rattle.power.specs.Roots.{roots}
 use Rattle.power.specs.Power.{exp10Of, exp60Of, expOf, exp2Of, powAt, powUnits, raise, floorOf, floorUnits}
 use Rattle.sequence.specs.History.{latest, newest, countAfter, placesAfter}
 use Rattle.biquad.specs.Tick.{tickOf}
-use Rattle.level.specs.Bs1770.{zero64, one64, loudness}
-use Rattle.level.specs.Finite.{allFinite}
+use Rattle.level.specs.Bs1770.{loudness}
+use Rattle.float.specs.Arithmetic.{zero64, one64}
+use Rattle.float.specs.AllFinite.{allFinite}
 use Rattle.level.specs.Weighing as weighing
 use Rattle.level.specs.Level as level
 use Rattle.detector.specs.Filters as filters

@@ -5,10 +5,10 @@ use mathlib.Core.List.{List}
 use lib.Dec.{eqb}
 use lib.ListN.{length}
 use lib.Ieee.{Float, binary64, neg, ofBits}
-use Rattle.demands.specs.declared.Refusal.{Refusal}
-use Rattle.demands.specs.declared.Refusal.the-variants.{ShortFrame, BadSample, BadSetting, Runaway, CounterFull, NoStrand}
+use Rattle.refusal.specs.declared.Refusal.{Refusal}
+use Rattle.refusal.specs.declared.Refusal.the-variants.{ShortFrame, BadSample, BadSetting, Runaway, CounterFull, NoStrand}
 use Rattle.level.specs.Bs1770.{frameLength}
-use Rattle.level.specs.Finite.{allFinite}
+use Rattle.float.specs.AllFinite.{allFinite}
 use Rattle.vad.specs.declared.VadSettings.{VadSettings}
 use Rattle.vad.specs.declared.Strand.{Strand}
 use Rattle.vad.specs.declared.Framed as heard

@@ -1,4 +1,4 @@
--- Dead units that document 01 names: none of them meets the demands.
+-- Dead units that the specification names: none of them meets the demands.
 use Prim.Native.Nat.{ℕ}
 use mathlib.Core.Bool.{Bool, true, false, cond}
 use mathlib.Core.List.{[]}
@@ -6,7 +6,7 @@ use lib.Ieee.{Float, lt}
 use Rattle.demands.specs.Calls.{Reply, answer, done, refusal, passed, Step, gets, eventCalls, Port}
 use Rattle.demands.specs.Demands.{Demand1, Demand2}
 use Rattle.demands.specs.Dead.{Fixed, Repeats, Invents, RefusesAll, always}
-use Rattle.level.specs.Bs1770.{zero64, one64}
+use Rattle.float.specs.Arithmetic.{zero64, one64}
 use Rattle.vad.specs.Rust.{quiet}
 use Rattle.comis.specs.declared.loop_bank.Loops.{Loops}
 use Rattle.ratio.specs.Status.{db}

@@ -1,6 +1,6 @@
 pub mod Settings
 pub mod Chain
-pub mod Strands
+pub mod StrandFrames
 pub mod Valid
 pub mod Numbers
 pub mod Rules

@@ -8,7 +8,8 @@ use lib.Ieee.{Float, lt}
 use Rattle.demands.specs.Calls.{Log, empty, _▹_, Reference, ofHistory}
 use Rattle.demands.specs.Demands.{stateOf}
 use Rattle.demands.specs.Dead.{Lived}
-use Rattle.level.specs.Bs1770.{floorLufs, momentary, shortTerm, fast}
+use Rattle.level.specs.Bs1770.{momentary, shortTerm, fast}
+use Rattle.float.specs.Silence.{silenceLufs}
 use Rattle.level.specs.Heard.{bs1770}
 use Rattle.vad.specs.declared.VadState.{VadState}
 use Rattle.vad.specs.State.{tenthsOf}
@@ -54,7 +55,7 @@ shownOf s = record { momentary = s .«momentary_lufs» .0; short-term = s .«sho
 
 -- of the ducker: short-term, LUFS, to a tenth; silence at -100 and below, and while it is off
 abbrev pub readingOf : Bool → List Float → duck.Shown
-readingOf enabled xs = cond enabled (cond (lt floorLufs (shortTerm xs)) (Level (tenthsOf (shortTerm xs))) Silence) Silence
+readingOf enabled xs = cond enabled (cond (lt silenceLufs (shortTerm xs)) (Level (tenthsOf (shortTerm xs))) Silence) Silence
 
 -- a frame's: of the key strand, of the bed strand, and the ducker's dialogue and bed; any other call has none
 pub data Said : Type 0 where

@@ -1,15 +1,15 @@
--- Document 01's rules for frames, settings calls and resets, and the port: what the three functions do, as their contracts say it.
+-- The specification's rules for frames, settings calls and resets, and the port: what the three functions do, as their contracts say it.
 use Prim.Native.Nat.{ℕ}
 use mathlib.Core.Bool.{Bool, cond, not, _||_}
 use mathlib.Core.List.{List, [], _∷_}
 use lib.Dec.{T, eqb}
 use lib.ListN.{length}
 use lib.Ieee.{Float, binary64, fits}
-use Rattle.demands.specs.declared.Refusal.the-variants.{ShortFrame, BadSample, BadSetting, Runaway, CounterFull, NoStrand}
-use Rattle.demands.specs.Table.{numberOf, Row, _means_, firstNumber}
+use Rattle.refusal.specs.declared.Refusal.the-variants.{ShortFrame, BadSample, BadSetting, Runaway, CounterFull, NoStrand}
+use Rattle.refusal.specs.Table.{numberOf, Row, _means_, firstNumber}
 use Rattle.demands.specs.Calls as calls
 use Rattle.level.specs.Bs1770.{frameLength}
-use Rattle.level.specs.Finite.{allFinite}
+use Rattle.float.specs.AllFinite.{allFinite}
 use Rattle.vad.specs.declared.VadSettings.{VadSettings}
 use Rattle.vad.specs.Strand as strand
 use Rattle.ratio.specs.declared.Duck.{Duck}

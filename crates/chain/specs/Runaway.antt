@@ -1,5 +1,5 @@
 -- Refusal 4, runaway: the frame would store, answer, or hand to the logarithm, a power, the root or the narrowing a number that isn't finite.
--- Here stand all these numbers, as document 01 and the Rust have them: a list for each of the six, and the promise. No flag of the code is read.
+-- Here stand all these numbers, as the specification and the Rust have them: a list for each of the six, and the promise. No flag of the code is read.
 -- What a frame makes of a chain is `workOf`; t is a strand before the frame, xs are its 480 samples, and f is what the frame makes of it.
 use Prim.Native.Nat.{ℕ, zero, suc, _+_, _-_}
 use mathlib.Core.Path.{_≡_}
@@ -9,14 +9,15 @@ use mathlib.Core.List.{List, [], _∷_, _++_}
 use lib.Dec.{ltb}
 use lib.ListN.{length, getD, take, drop}
 use lib.Ieee.{Float, nan, neg, lt}
-use Rattle.demands.specs.declared.Refusal.the-variants.{Runaway}
-use Rattle.demands.specs.Table.{numberOf}
+use Rattle.refusal.specs.declared.Refusal.the-variants.{Runaway}
+use Rattle.refusal.specs.Table.{numberOf}
 use Rattle.float.specs.declared.Lufs.{Lufs}
 use Rattle.float.specs.Choice.{clampOf}
 use Rattle.sequence.specs.History.{latest, held}
 use Rattle.level.specs.declared.Level.{Level}
-use Rattle.level.specs.Bs1770.{_⊕_, _⊖_, _⊗_, _⊘_, zero64, one64, ten, momentaryFrames, shortTermFrames}
-use Rattle.level.specs.Finite.{allFinite}
+use Rattle.level.specs.Bs1770.{momentaryFrames, shortTermFrames}
+use Rattle.float.specs.Arithmetic.{_⊕_, _⊖_, _⊗_, _⊘_, zero64, one64, ten64}
+use Rattle.float.specs.AllFinite.{allFinite}
 use Rattle.level.specs.Level as level
 use Rattle.detector.specs.declared.Bands.{Bands}
 use Rattle.detector.specs.declared.FeatureDetector.{FeatureDetector}
@@ -51,7 +52,7 @@ use Rattle.chain.specs.declared.Answer.{Answer}
 use Rattle.chain.specs.declared.Outcome.the-variants as outcome
 use Rattle.chain.specs.declared.Worked.{Worked}
 use Rattle.chain.specs.Chain.{inputsOf, workOf, keptOf, answerOf, frameOf}
-use Rattle.chain.specs.Strands.{Whole}
+use Rattle.chain.specs.StrandFrames.{Whole}
 use Rattle.chain.specs.Valid.{Valid}
 use Rattle.chain.specs.Numbers.{numbersOf}
 use Rattle.chain.specs.Rules.{frameNumber}
@@ -111,7 +112,7 @@ toLogarithm t xs f = ofLoudness (f .strand .level) ++ ofBands (runOf (begun (t .
 
 -- 10 ^ u, of the frame's level while speech is on
 abbrev pub toTen : Framed → List Float
-toTen f = cond (f .state .«speech_active») ((f .state .«level_dbfs» ⊘ ten) ∷ []) []
+toTen f = cond (f .state .«speech_active») ((f .state .«level_dbfs» ⊘ ten64) ∷ []) []
 
 -- e ^ u, by an envelope's step of 0.01 s. Where the time constant isn't above 0 or isn't finite, it jumps to its target.
 abbrev pub byStep : Ballistics → Float → Float → List Float

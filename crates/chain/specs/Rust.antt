@@ -1,4 +1,4 @@
--- The Rust over a history: its `Vad` for each strand and its ratio duck, wired as document 01's module 5 says. It is given the settings as stored.
+-- The Rust over a history: its `Vad` for each strand and its ratio duck, wired as the specification's module 5 says. It is given the settings as stored.
 use mathlib.Core.Bool.{cond}
 use mathlib.Core.List.{List}
 use lib.Dec.{eqb}

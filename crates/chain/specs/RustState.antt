@@ -6,7 +6,8 @@ use lib.Dec.{eqb}
 use lib.ListN.{length}
 use lib.Ieee.{binary32, ofBits}
 use Rattle.sequence.specs.History.{latest, filled}
-use Rattle.level.specs.Bs1770.{zero64, shortTermFrames}
+use Rattle.level.specs.Bs1770.{shortTermFrames}
+use Rattle.float.specs.Arithmetic.{zero64}
 use Rattle.level.specs.declared.Level.{Level}
 use Rattle.level.specs.Deque.{Meter}
 use Rattle.detector.specs.declared.Floor.{Floor}

@@ -2,7 +2,7 @@
 use mathlib.Core.Bool.{Bool, true, cond, _||_}
 use lib.Ieee.{Float, binary64, lt, eq, neg, ofBits}
 use lib.Ieee.Scale.{finite}
-use Rattle.float.specs.Whole.{zero64}
+use Rattle.float.specs.Arithmetic.{zero64}
 use Rattle.vad.specs.declared.VadSettings.{VadSettings}
 use Rattle.ratio.specs.declared.Duck.{Duck}
 use Rattle.chain.specs.declared.Range.{Range}

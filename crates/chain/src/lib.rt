@@ -3,8 +3,8 @@
 ghost use mathlib.Core.Path.{_≡_};
 ghost use lib.ListN.{length};
 ghost use Rattle.level.specs.Bs1770.{frameLength};
-ghost use Rattle.strands.specs.Strands.{weighingAt, bandsAt};
-ghost use Rattle.chain.specs.Strands.{Whole, finishedOf, strandsOf};
+ghost use Rattle.paired_filters.specs.Pairs.{weighingAt, bandsAt};
+ghost use Rattle.chain.specs.StrandFrames.{Whole, finishedOf, strandFramesOf};
 ghost use Rattle.demands.specs.Demands.{EventDemands};
 ghost use Rattle.chain.specs.Rules.{rules, port};
 ghost use Rattle.chain.specs.Rust.{rust};
@@ -15,16 +15,16 @@ ghost use Rattle.chain.specs.Runaway.{RunawayExact};
 ghost use Rattle.chain.specs.Settings.{callRanges, imageRanges, outsideOf, outsideStrand, outsideDuck, outsideSettings, zeroedOf, storedStrand, storedDuck, storedOf};
 ghost use Rattle.chain.specs.Chain.{freshStrand, freshDuck, freshSettings, freshOf, inputsOf, workOf, refusedOf, passedOf, judgedOf, frameOf, setOf, resetOf};
 use comis::loop_bank::Loops;
-use demands::Refusal;
 use float::Db;
 use float::Lufs;
+use paired_filters::Banded;
+use paired_filters::BandedPairs;
+use paired_filters::Weighed;
+use paired_filters::WeighedPairs;
 use ratio::Duck;
 use ratio::Inputs;
 use ratio::RatioStatus;
-use strands::Banded;
-use strands::BandedPairs;
-use strands::Weighed;
-use strands::WeighedPairs;
+use refusal::Refusal;
 use vad::Strand;
 use vad::VadSettings;
 use vad::VadState;
@@ -142,7 +142,7 @@ pub struct Changed {
 }
 
 // Both strands after a frame.
-pub struct Strands {
+pub struct StrandFrames {
     pub key: vad::Framed,
     pub bed: vad::Framed,
 }
@@ -369,8 +369,8 @@ impl Chain {
     }
 
     // Key strand and bed strand, over the samples as f64.
-    fn strands(self, xs: &[f64; 480], ys: &[f64; 480]) -> Strands
-        ensures { λ r. ⌜ r ≡ strandsOf self (now (xs .entry)) (now (ys .entry)) ⌝ }
+    fn strand_frames(self, xs: &[f64; 480], ys: &[f64; 480]) -> StrandFrames
+        ensures { λ r. ⌜ r ≡ strandFramesOf self (now (xs .entry)) (now (ys .entry)) ⌝ }
     {
         let settings = self.settings;
         let key_settings = settings.key;
@@ -393,12 +393,12 @@ impl Chain {
         };
         let mut out = no_outputs();
         let mut also = no_outputs();
-        let t = strands::filter_frame(weighed, banded, xs, ys, &mut out, &mut also);
+        let t = paired_filters::filter_frame(weighed, banded, xs, ys, &mut out, &mut also);
         let w = t.weighed;
         let f = t.banded;
         let k = finished(key, w, f, false, &out, key_settings);
         let b = finished(bed, w, f, true, &also, bed_settings);
-        Strands { key: k, bed: b }
+        StrandFrames { key: k, bed: b }
     }
 
     // Key strand, bed strand, then the ducker. `frame` has tested both slices.
@@ -411,7 +411,7 @@ impl Chain {
         let loops = self.loops;
         let xs = detector::samples(key);
         let ys = detector::samples(bed);
-        let s = self.strands(&xs, &ys);
+        let s = self.strand_frames(&xs, &ys);
         let k = s.key;
         let b = s.bed;
         let d = ratio::frame(loops, duck, inputs(k, b));
@@ -481,7 +481,7 @@ impl Chain {
         ensures { λ r. ⌜ r ≡ frameOf self (now (key .entry)) (now (bed .entry)) ⌝ }
     {
         if (key.len() == FRAME) & (bed.len() == FRAME) {
-            if detector::all_finite32(key) & detector::all_finite32(bed) {
+            if float::all_finite32(key) & float::all_finite32(bed) {
                 return self.judged(self.work(key, bed));
             }
             return self.refused(Refusal::BadSample);

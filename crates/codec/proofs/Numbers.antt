@@ -1,12 +1,11 @@
 -- Laws of words and finite floats, as the code tests them.
-use mathlib.Core.Path.{_≡_, refl, sym, subst}
+use mathlib.Core.Path.{_≡_, refl}
 use mathlib.Core.Bool.{Bool, true, false, cond, not, _&&_}
 use Prim.Native.Nat.{ℕ, _*_, _%_, _≤_, _<_}
 use native.Mathlib.Nat.{le-of-lt}
 use borrow.Author.Tests.{lt-ltb, le-ltb}
 use lib.Dec.{T, ltb}
-use lib.Ieee.{Float, nan, Format, top, ne, ofBits, nanBits}
-use lib.Ieee.Compare.{differs-from-itself}
+use lib.Ieee.{Format, top, ofBits, nanBits}
 use Rattle.float.proofs.Patterns.{no-nan-pattern}
 use Rattle.codec.specs.Fields.{infinite, zeroOf, numOf}
 
@@ -29,7 +28,3 @@ numOf-wide f w a = rw (le-ltb w (2 * top f) a) (go (ltb (w % top f) (infinite f)
 
 pub no-nan : (f : Format) (w : ℕ) → w % top f < infinite f → T (not (nanBits f w))
 no-nan f w h = no-nan-pattern f w (le-of-lt h)
-
--- a value that differs from itself is the NaN
-pub is-nan : (x : Float) → ne x x ≡ true → x ≡ nan
-is-nan x h = differs-from-itself x (subst T (sym h) tt)

@@ -11,10 +11,6 @@ ghost use Rattle.codec.specs.Fields.{numOf, capped, flagBits};
 ghost use Rattle.codec.specs.Codec.{valueAt};
 ghost use Rattle.codec.specs.Forms.{f64, f32};
 
-const NAN64: u64 = 0x7ff8_0000_0000_0000; // the bits that stand for every NaN
-
-const NAN32: u64 = 0x7fc0_0000;
-
 const SIGN64: u64 = 0x8000_0000_0000_0000;
 
 const SIGN32: u64 = 0x8000_0000;
@@ -26,26 +22,6 @@ const INFINITE32: u64 = 0x7f80_0000;
 const HALF: u64 = 0x1_0000_0000; // the low half of a word is below it
 
 // ---- writing
-
-// The bits of x.
-pub fn bits64(x: f64) -> u64
-    ensures { λ r. ⌜ r ≡ toBits binary64 x ⌝ }
-{
-    if x != x {
-        return NAN64;
-    }
-    f64::to_bits(x)
-}
-
-// The bits of x, in the low half.
-pub fn bits32(x: f32) -> u64
-    ensures { λ r. ⌜ r ≡ toBits binary32 x ⌝ }
-{
-    if x != x {
-        return NAN32;
-    }
-    f32::to_bits(x) as u64
-}
 
 pub fn flag_bits(b: bool) -> u64
     ensures { λ r. ⌜ r ≡ flagBits b ⌝ }
@@ -80,7 +56,7 @@ pub fn put(w: &mut [u64], at: usize, v: u64)
 pub fn put64(w: &mut [u64], at: usize, x: f64)
     ensures { λ _. ⌜ Laid (now (w .entry)) at (toBits binary64 x ∷ []) (now (w .exit)) ⌝ }
 {
-    put(w, at, bits64(x));
+    put(w, at, float::to_bits(x));
 }
 
 pub fn put_flag(w: &mut [u64], at: usize, b: bool)
@@ -95,7 +71,7 @@ pub fn put_all(w: &mut [u64], at: usize, v: &[f64])
 {
     let mut k: usize = 0;
     while k < v.len() {
-        store(w, at, k, bits64(v[k]));
+        store(w, at, k, float::to_bits(v[k]));
         k += 1;
     }
 }
@@ -105,7 +81,7 @@ pub fn put_all32(w: &mut [u64], at: usize, v: &[f32])
 {
     let mut k: usize = 0;
     while k < v.len() {
-        store(w, at, k, bits32(v[k]));
+        store(w, at, k, float::to_bits32(v[k]) as u64);
         k += 1;
     }
 }

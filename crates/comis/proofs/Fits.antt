@@ -1,9 +1,9 @@
--- Every number that an update stores is a value that binary64 holds: it is the result of an operation, a constant, or was there before. Assumes nothing.
+-- Every number that an update stores is a value that binary64 holds: it is the result of an operation, a constant, or was there before.
 use lib.Dec.{T}
 use lib.Ieee.{Float, binary64, lt, fits}
 use lib.Ieee.Fits.{add-fits, sub-fits, cond-fits}
 use lib.Ieee.Bits.{ofBits-fits}
-use Rattle.float.specs.Whole.{zero64}
+use Rattle.float.specs.Arithmetic.{zero64}
 use Rattle.float.specs.Choice.{maxOf}
 use Rattle.comis.specs.declared.Shown.{Shown}
 use Rattle.comis.specs.declared.Shown.the-variants.{Silence, Level}

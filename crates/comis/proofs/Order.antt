@@ -1,4 +1,4 @@
--- Floats that are numbers are in order, one way or the other: so a clamped number lies between its ends. Assumes nothing.
+-- Floats that are numbers are in order, one way or the other: so a clamped number lies between its ends.
 use Prim.Native.Nat.{ℕ, zero, suc, _+_, _*_, _≤_}
 use mathlib.Core.Path.{_≡_, refl, sym}
 use mathlib.Core.Bool.{Bool, true, false, not, _&&_, _||_, cond, true≢false}

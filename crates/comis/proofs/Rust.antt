@@ -1,8 +1,8 @@
--- The Rust's loops and engine go where ours go: what they keep besides the loops is set, by the state, before it is read. Assumes nothing.
+-- The Rust's loops and engine go where ours go: what they keep besides the loops is set, by the state, before it is read.
 use mathlib.Core.Path.{_≡_, refl, sym, ap, ap₂, _∙_}
 use mathlib.Core.Bool.{Bool, true, false, not, cond}
 use lib.Ieee.{Float, binary64, sub, lt}
-use Rattle.float.specs.Whole.{zero64}
+use Rattle.float.specs.Arithmetic.{zero64}
 use Rattle.float.specs.Choice.{maxOf}
 use Rattle.float.specs.declared.Lufs.{Lufs}
 use Rattle.comis.specs.declared.Shown.{Shown}

@@ -1,4 +1,4 @@
--- Without a need fast, which is stepped toward itself, stays where it is. Assumes nothing.
+-- Without a need fast, which is stepped toward itself, stays where it is.
 use Prim.Native.Nat.{ℕ, _-_, _*_, _<_}
 use native.Mathlib.Nat.{le-refl, mul-pos, zero-mul}
 use native.Mathlib.Omega.{arith}
@@ -10,8 +10,8 @@ use lib.IntN.{pos}
 use lib.Ieee.{Float, nan, inf, fin, binary64, up, down, size, neg, sum, add, sub, mul, round, isNan, ofBits}
 use lib.Ieee.Fits.{down-pos}
 use lib.Ieee.Scale.{finite, round-same}
-use Rattle.float.specs.Valid.{plus, Sum}
-use Rattle.float.specs.Whole.{zero64}
+use Rattle.float.specs.Valid.{plus, NoMinus}
+use Rattle.float.specs.Arithmetic.{zero64}
 use Rattle.float.proofs.Exact.{nil, and-nil}
 use Rattle.power.specs.Power.{expOf}
 use Rattle.power.proofs.Scaled.{exp-laws}
@@ -56,7 +56,7 @@ nil-times (fin true k b) h p = absurd p
 nil-times (fin false k b) h p =
     ap (λ (z : ℕ). round binary64 false z (1 * down b)) (zero-mul (k * up b)) ∙ zero-round (1 * down b) (mul-pos (down-pos (pos 0)) (down-pos b))
 
-toward-itself : (x c : Float) → Sum binary64 x → T (finite x) → T (finite c) → T (plus c) → toward x x c ≡ x
+toward-itself : (x c : Float) → NoMinus binary64 x → T (finite x) → T (finite c) → T (plus c) → toward x x c ≡ x
 toward-itself x c p h q r =
     ap (λ (z : Float). add binary64 x (mul binary64 z c)) (less-itself x h ∙ zero-is) ∙ ap (add binary64 x) (nil-times c q r ∙ zero-is) ∙ and-nil binary64 x p
 
@@ -85,14 +85,14 @@ coeff-finite tc dt = go (gradual tc dt)
 -- ---- fast
 
 -- a step from a value toward itself
-step-itself : (l : Loops) (c : LoopBankConfig) (s : MixState) (b : Ballistics) (x dt : Float) → Sum binary64 x → T (finite x) → T (stepOf l c s b x x dt .finite) → stepOf l c s b x x dt .envelope .current ≡ x
+step-itself : (l : Loops) (c : LoopBankConfig) (s : MixState) (b : Ballistics) (x dt : Float) → NoMinus binary64 x → T (finite x) → T (stepOf l c s b x x dt .finite) → stepOf l c s b x x dt .envelope .current ≡ x
 unfolding stepOf processOf
 step-itself l c s b x dt p h t =
     let times = scaledOf c b (l .«hold_remaining_seconds») s in
     let k = coeff-finite (timeConstant x x (times .«attack_seconds») (times .«release_seconds»)) dt t in
     toward-itself x _ p h (k .0) (k .1)
 
-pub fast-stays : (l : Loops) (c : LoopBankConfig) (s : MixState) (dt : Float) → T (isDucking s) → Sum binary64 (l .fast) → T (finite (l .fast)) → T (updateFast l c s Silence dt .finite) → updateFast l c s Silence dt .loops ≡ l
+pub fast-stays : (l : Loops) (c : LoopBankConfig) (s : MixState) (dt : Float) → T (isDucking s) → NoMinus binary64 (l .fast) → T (finite (l .fast)) → T (updateFast l c s Silence dt .finite) → updateFast l c s Silence dt .loops ≡ l
 unfolding updateFast fastGoal duckGoal
 fast-stays l c ReleaseToUnity dt d p h t = absurd d
 fast-stays l c DuckToTarget dt d p h t = ap (withFast l) (step-itself l c DuckToTarget fastTimes (l .fast) dt p h t)

@@ -1,4 +1,4 @@
--- What a release hands to the power of 60 is finite where the hold, which is stored, is. Assumes nothing.
+-- What a release hands to the power of 60 is finite where the hold, which is stored, is.
 use mathlib.Core.Path.{_≡_, refl, subst⁻¹}
 use mathlib.Core.Bool.{Bool, true, false, not, cond}
 use lib.Dec.{T, eqb}
@@ -6,10 +6,10 @@ use lib.IntN.{ℤ, negsuc}
 use Prim.Native.Nat.{ℕ, _*_}
 use lib.Ieee.{Float, nan, inf, fin, binary64, div, lt, isNan, round, ofBits, up, down, unlike}
 use lib.Ieee.Scale.{finite}
-use Rattle.float.specs.Whole.{zero64}
+use Rattle.float.specs.Arithmetic.{zero64, one64}
 use Rattle.float.specs.Choice.{clampOf}
 use Rattle.power.proofs.Scaled.{round-number}
-use Rattle.comis.specs.LoopBank.{releaseHold, one64, remainingOf}
+use Rattle.comis.specs.LoopBank.{releaseHold, remainingOf}
 
 -- a number clamped to 0 to 1 is finite
 unit-finite : (x : Float) → T (not (isNan x)) → T (finite (clampOf x zero64 one64))

@@ -1,7 +1,9 @@
 -- What each loop needs, and the loops' updates by the state: the Rust's `AutomixEngine` without `previous_state`. Definitions only.
 use mathlib.Core.Bool.{Bool, _||_, cond}
-use lib.Ieee.{Float, binary64, sub, neg, le, ofBits}
+use lib.Ieee.{Float, binary64, neg, le, ofBits}
+use Rattle.float.specs.Arithmetic.{_⊖_}
 use Rattle.float.specs.declared.Lufs.{Lufs}
+use Rattle.float.specs.Silence.{silenceLufs}
 use Rattle.comis.specs.declared.Shown.{Shown}
 use Rattle.comis.specs.declared.Shown.the-variants.{Silence, Level}
 use Rattle.comis.specs.declared.mix_state.MixState.{MixState}
@@ -15,10 +17,6 @@ use Rattle.comis.specs.declared.engine.AutomixResult.{AutomixResult}
 use Rattle.comis.specs.MixState.{fromVad, isDucking}
 use Rattle.comis.specs.LoopBank.{updateSlowMid, updateFast, updateRelease}
 
--- -100 LUFS
-abbrev pub silence : Float
-silence = neg (ofBits binary64 0x4059000000000000)
-
 -- 6 dB and 4 dB
 abbrev pub midAuthority : Float
 midAuthority = ofBits binary64 0x4018000000000000
@@ -29,7 +27,7 @@ fastAuthority = ofBits binary64 0x4010000000000000
 -- target - (dialogue - bed)
 unfoldable pub requiredReduction : Float → Lufs → Lufs → Shown
 requiredReduction target bed dialogue =
-    cond (le (bed .0) silence || le (dialogue .0) silence) Silence (Level (sub binary64 target (sub binary64 (dialogue .0) (bed .0))))
+    cond (le (bed .0) silenceLufs || le (dialogue .0) silenceLufs) Silence (Level (target ⊖ (dialogue .0 ⊖ bed .0)))
 
 unfoldable pub activeTarget : AutomixEngineConfig → MixState → Float
 activeTarget config ReleaseToUnity = config .«target_ratio_lu»

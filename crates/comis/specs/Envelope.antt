@@ -1,8 +1,8 @@
 -- The smoother: the Rust's `EnvelopeDetector::process`, each operation rounded in its order. Definitions only.
 use mathlib.Core.Bool.{Bool, true, _&&_, cond}
-use lib.Ieee.{Float, binary64, add, sub, mul, div, neg, lt}
+use lib.Ieee.{Float, neg, lt}
 use lib.Ieee.Scale as scale
-use Rattle.float.specs.Whole.{zero64}
+use Rattle.float.specs.Arithmetic.{_⊕_, _⊖_, _⊗_, _⊘_, zero64}
 use Rattle.power.specs.Power.{expOf}
 use Rattle.comis.specs.declared.envelope.EnvelopeDetector.{EnvelopeDetector}
 use Rattle.comis.specs.declared.envelope.Stepped.{Stepped}
@@ -18,7 +18,7 @@ gradual tc dt = (lt zero64 tc && scale.finite tc) && lt zero64 dt
 
 -- what is handed to the power
 abbrev pub exponent : Float → Float → Float
-exponent tc dt = div binary64 (neg dt) tc
+exponent tc dt = neg dt ⊘ tc
 
 unfoldable pub coeffOf : Float → Float → Coefficient
 coeffOf tc dt =
@@ -28,7 +28,7 @@ coeffOf tc dt =
 
 -- the distance to the target, by the coefficient
 abbrev pub toward : Float → Float → Float → Float
-toward current target c = add binary64 target (mul binary64 (sub binary64 current target) c)
+toward current target c = target ⊕ (current ⊖ target) ⊗ c
 
 unfoldable pub processOf : EnvelopeDetector → Float → Float → Float → Float → Stepped
 processOf self target attack release dt =

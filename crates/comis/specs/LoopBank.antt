@@ -1,8 +1,8 @@
 -- The three loops: the Rust's `LoopBank`, each operation rounded in its order, without the fields that each update sets before it reads them:
 -- `releasing`, `interview_release` and `release_speedup` are what the state says. Definitions only.
 use mathlib.Core.Bool.{Bool, true, _&&_, cond}
-use lib.Ieee.{Float, binary64, add, sub, mul, div, neg, lt, ofBits}
-use Rattle.float.specs.Whole.{zero64}
+use lib.Ieee.{Float, binary64, neg, lt, ofBits}
+use Rattle.float.specs.Arithmetic.{_⊕_, _⊖_, _⊗_, _⊘_, zero64, one64}
 use Rattle.float.specs.Choice.{maxOf, clampOf}
 use Rattle.power.specs.Power.{exp60Of}
 use Rattle.comis.specs.declared.Shown.{Shown}
@@ -42,14 +42,11 @@ interviewSpeedup = ofBits binary64 0x4010000000000000
 abbrev pub leastSpeed : Float
 leastSpeed = ofBits binary64 0x3f847ae147ae147b
 
-abbrev pub one64 : Float
-one64 = ofBits binary64 0x3ff0000000000000
-
 -- ---- time constants
 
 -- what is handed to the power of 60: the part of the hold that is left, from 0 to 1
 abbrev pub remainingOf : Float → Float
-remainingOf hold = clampOf (div binary64 hold releaseHold) zero64 one64
+remainingOf hold = clampOf (hold ⊘ releaseHold) zero64 one64
 
 unfoldable pub releaseStretch : Float → MixState → Float
 releaseStretch hold ReleaseToUnity = exp60Of (remainingOf hold)
@@ -67,8 +64,8 @@ unfoldable pub scaledOf : LoopBankConfig → Ballistics → Float → MixState �
 scaledOf config b hold state =
     let speed = maxOf (config .speed) leastSpeed in
     record {
-      «attack_seconds» = div binary64 (b .«attack_seconds») speed;
-      «release_seconds» = div binary64 (mul binary64 (b .«release_seconds») (releaseStretch hold state)) (mul binary64 speed (releaseSpeedup state));
+      «attack_seconds» = b .«attack_seconds» ⊘ speed;
+      «release_seconds» = b .«release_seconds» ⊗ releaseStretch hold state ⊘ (speed ⊗ releaseSpeedup state);
     }
 
 -- ---- steps
@@ -106,7 +103,7 @@ stepSlow l config state (Level need) dt =
 unfoldable pub stepMid : Loops → LoopBankConfig → MixState → Shown → Float → Updated
 stepMid l config state Silence dt = updated l true
 stepMid l config state (Level need) dt =
-    let trim = clampOf (sub binary64 need (l .slow)) (neg (config .«mid_authority_db»)) (config .«mid_authority_db») in
+    let trim = clampOf (need ⊖ l .slow) (neg (config .«mid_authority_db»)) (config .«mid_authority_db») in
     let m = stepOf l config state midTimes (l .mid) trim dt in
     updated (withMid l (m .envelope .current)) (m .finite)
 
@@ -119,7 +116,7 @@ updateSlowMid l config state slow mid dt =
 -- slow and mid are those after their steps
 unfoldable pub duckGoal : Loops → LoopBankConfig → Shown → Float
 duckGoal l config Silence = l .fast
-duckGoal l config (Level need) = clampOf (sub binary64 need (add binary64 (l .slow) (l .mid))) zero64 (config .«fast_authority_db»)
+duckGoal l config (Level need) = clampOf (need ⊖ (l .slow ⊕ l .mid)) zero64 (config .«fast_authority_db»)
 
 unfoldable pub fastGoal : Loops → LoopBankConfig → MixState → Shown → Float
 fastGoal l config state need = cond (isDucking state) (duckGoal l config need) zero64
@@ -133,20 +130,20 @@ updateFast l config state need dt =
 
 -- slow after its step, less what mid gave back on its way up to 0
 unfoldable pub lessTrim : Float → Float → Float
-lessTrim slow trim = cond (lt zero64 trim) (maxOf (sub binary64 slow trim) zero64) slow
+lessTrim slow trim = cond (lt zero64 trim) (maxOf (slow ⊖ trim) zero64) slow
 
 unfoldable pub updateRelease : Loops → LoopBankConfig → MixState → Float → Updated
 updateRelease l config state dt =
-    let held = withHold l (maxOf (sub binary64 (l .«hold_remaining_seconds») dt) zero64) in
+    let held = withHold l (maxOf (l .«hold_remaining_seconds» ⊖ dt) zero64) in
     let m = stepOf held config state midTimes (l .mid) zero64 dt in
-    let trim = maxOf (sub binary64 (m .envelope .current) (l .mid)) zero64 in
+    let trim = maxOf (m .envelope .current ⊖ l .mid) zero64 in
     let s = stepOf held config state slowTimes (l .slow) zero64 dt in
     updated (withSlow (withMid held (m .envelope .current)) (lessTrim (s .envelope .current) trim)) (m .finite && s .finite)
 
 -- ---- the sum
 
 abbrev pub totalOf : Loops → Float → Float
-totalOf l most = clampOf (add binary64 (add binary64 (l .slow) (l .mid)) (l .fast)) zero64 most
+totalOf l most = clampOf (l .slow ⊕ l .mid ⊕ l .fast) zero64 most
 
 unfoldable pub contributionsOf : Loops → LoopBankConfig → LoopContributions
 contributionsOf l config =

@@ -2,9 +2,9 @@
 -- `release_speedup` and `previous_state`, which the Rust keeps from call to call. A `&mut self` is a record handed back. Definitions only.
 -- `None` is `Silence` and `Some(x)` is `Level x`. Left out are DuckDepth, `com_gate_lufs` and `gain_linear`.
 use mathlib.Core.Bool.{Bool, true, false, not, _&&_, _||_, cond}
-use lib.Ieee.{Float, binary64, add, sub, mul, div, neg, lt, le}
+use lib.Ieee.{Float, neg, lt, le}
 use lib.Ieee.Scale.{finite}
-use Rattle.float.specs.Whole.{zero64}
+use Rattle.float.specs.Arithmetic.{_⊕_, _⊖_, _⊗_, _⊘_, zero64, one64}
 use Rattle.float.specs.Choice.{maxOf, clampOf}
 use Rattle.power.specs.Power.{expOf, exp60Of}
 use Rattle.comis.specs.declared.Shown.{Shown}
@@ -15,16 +15,17 @@ use Rattle.comis.specs.declared.loop_bank.Ballistics.{Ballistics}
 use Rattle.comis.specs.declared.loop_bank.LoopBankConfig.{LoopBankConfig}
 use Rattle.comis.specs.declared.engine.AutomixEngineConfig.{AutomixEngineConfig}
 use Rattle.comis.specs.MixState.{fromVad, isDucking}
-use Rattle.comis.specs.LoopBank.{slowTimes, midTimes, fastTimes, releaseHold, interviewSpeedup, leastSpeed, one64}
-use Rattle.comis.specs.Engine.{silence, loopConfig}
+use Rattle.comis.specs.LoopBank.{slowTimes, midTimes, fastTimes, releaseHold, interviewSpeedup, leastSpeed}
+use Rattle.comis.specs.Engine.{loopConfig}
+use Rattle.float.specs.Silence.{silenceLufs}
 
 -- ---- envelope.rs
 
 unfoldable pub process : Float → Float → Float → Float → Float → Float
 process current target attack release dt =
     let tc = cond (lt current target) attack release in
-    let coeff = cond ((lt zero64 tc && finite tc) && lt zero64 dt) (expOf (div binary64 (neg dt) tc)) zero64 in
-    add binary64 target (mul binary64 (sub binary64 current target) coeff)
+    let coeff = cond ((lt zero64 tc && finite tc) && lt zero64 dt) (expOf (neg dt ⊘ tc)) zero64 in
+    target ⊕ (current ⊖ target) ⊗ coeff
 
 -- ---- loop_bank.rs
 
@@ -58,14 +59,14 @@ abbrev pub set-bank-config : LoopBank → LoopBankConfig → LoopBank
 set-bank-config b c = bank c (b .slow) (b .mid) (b .fast) (b .hold) (b .releasing) (b .interview-release) (b .release-speedup)
 
 unfoldable pub release-stretch : LoopBank → Float
-release-stretch b = cond (not (b .releasing) || b .interview-release) one64 (exp60Of (clampOf (div binary64 (b .hold) releaseHold) zero64 one64))
+release-stretch b = cond (not (b .releasing) || b .interview-release) one64 (exp60Of (clampOf (b .hold ⊘ releaseHold) zero64 one64))
 
 unfoldable pub scaled : LoopBank → Ballistics → Ballistics
 scaled b t =
     let speed = maxOf (b .config .speed) leastSpeed in
     record {
-      «attack_seconds» = div binary64 (t .«attack_seconds») speed;
-      «release_seconds» = div binary64 (mul binary64 (t .«release_seconds») (release-stretch b)) (mul binary64 speed (b .release-speedup));
+      «attack_seconds» = t .«attack_seconds» ⊘ speed;
+      «release_seconds» = t .«release_seconds» ⊗ release-stretch b ⊘ (speed ⊗ b .release-speedup);
     }
 
 -- a stage's `process` with its scaled times
@@ -80,7 +81,7 @@ slow-if b (Level required) dt = set-slow b (stage b slowTimes (b .slow) (clampOf
 unfoldable pub mid-if : LoopBank → Shown → Float → LoopBank
 mid-if b Silence dt = b
 mid-if b (Level required) dt =
-    set-mid b (stage b midTimes (b .mid) (clampOf (sub binary64 required (b .slow)) (neg (b .config .«mid_authority_db»)) (b .config .«mid_authority_db»)) dt)
+    set-mid b (stage b midTimes (b .mid) (clampOf (required ⊖ b .slow) (neg (b .config .«mid_authority_db»)) (b .config .«mid_authority_db»)) dt)
 
 unfoldable pub update-slow-mid : LoopBank → Shown → Shown → Float → LoopBank
 update-slow-mid b slow mid dt = mid-if (slow-if (bank (b .config) (b .slow) (b .mid) (b .fast) releaseHold false false one64) slow dt) mid dt
@@ -88,7 +89,7 @@ update-slow-mid b slow mid dt = mid-if (slow-if (bank (b .config) (b .slow) (b .
 unfoldable pub fast-target : Bool → LoopBank → Shown → Float
 fast-target true b required = zero64
 fast-target false b Silence = b .fast
-fast-target false b (Level required) = clampOf (sub binary64 required (add binary64 (b .slow) (b .mid))) zero64 (b .config .«fast_authority_db»)
+fast-target false b (Level required) = clampOf (required ⊖ (b .slow ⊕ b .mid)) zero64 (b .config .«fast_authority_db»)
 
 unfoldable pub update-fast : LoopBank → Shown → Float → LoopBank
 update-fast b required dt = set-fast b (stage b fastTimes (b .fast) (fast-target (b .releasing) b required) dt)
@@ -97,18 +98,18 @@ update-fast b required dt = set-fast b (stage b fastTimes (b .fast) (fast-target
 unfoldable pub release-stages : LoopBank → Float → LoopBank
 release-stages b dt =
     let after = stage b midTimes (b .mid) zero64 dt in
-    let trim = maxOf (sub binary64 after (b .mid)) zero64 in
+    let trim = maxOf (after ⊖ b .mid) zero64 in
     let moved = set-mid b after in
     let slow = stage moved slowTimes (moved .slow) zero64 dt in
-    cond (lt zero64 trim) (set-slow moved (maxOf (sub binary64 slow trim) zero64)) (set-slow moved slow)
+    cond (lt zero64 trim) (set-slow moved (maxOf (slow ⊖ trim) zero64)) (set-slow moved slow)
 
 unfoldable pub update-release : LoopBank → Bool → Float → LoopBank
 update-release b interview dt =
-    let hold = maxOf (sub binary64 (b .hold) dt) zero64 in
+    let hold = maxOf (b .hold ⊖ dt) zero64 in
     release-stages (bank (b .config) (b .slow) (b .mid) (b .fast) hold true interview (cond interview interviewSpeedup one64)) dt
 
 abbrev pub total-reduction : LoopBank → Float
-total-reduction b = clampOf (add binary64 (add binary64 (b .slow) (b .mid)) (b .fast)) zero64 (b .config .«max_gain_reduction_db»)
+total-reduction b = clampOf (b .slow ⊕ b .mid ⊕ b .fast) zero64 (b .config .«max_gain_reduction_db»)
 
 abbrev pub reset-bank : LoopBank → LoopBank
 reset-bank b = new-bank (b .config)
@@ -116,7 +117,7 @@ reset-bank b = new-bank (b .config)
 -- ---- engine.rs
 
 unfoldable pub required-reduction : Float → Float → Float → Shown
-required-reduction target bed dialogue = cond (le bed silence || le dialogue silence) Silence (Level (sub binary64 target (sub binary64 dialogue bed)))
+required-reduction target bed dialogue = cond (le bed silenceLufs || le dialogue silenceLufs) Silence (Level (target ⊖ (dialogue ⊖ bed)))
 
 pub record AutomixEngine : Type 0 where
   pub config : AutomixEngineConfig

@@ -1,7 +1,7 @@
 -- Silence or a level as an answer gives it: a flag, and a value that is 0 for silence. Definitions only.
 use Prim.Native.Nat.{ℕ}
 use lib.Ieee.{Float}
-use Rattle.float.specs.Whole.{zero64}
+use Rattle.float.specs.Arithmetic.{zero64}
 use Rattle.comis.specs.declared.Shown.{Shown}
 use Rattle.comis.specs.declared.Shown.the-variants.{Silence, Level}
 

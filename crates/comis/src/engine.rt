@@ -1,11 +1,11 @@
 // Decides what each loop needs, by the state, and has the loops go there.
-use super::SILENCE_LUFS;
 use super::Shown;
 use super::loop_bank::LoopBankConfig;
 use super::loop_bank::Loops;
 use super::loop_bank::Updated;
 use super::mix_state::MixState;
 use float::Lufs;
+use float::SILENCE_LUFS;
 ghost use mathlib.Core.Path.{_≡_};
 ghost use Rattle.comis.specs.Engine.{requiredReduction, activeTarget, loopConfig, processTick, processFast};
 

@@ -9,9 +9,6 @@ pub mod mix_state;
 ghost use mathlib.Core.Path.{_≡_};
 ghost use Rattle.comis.specs.Shown.{shownFlag, shownValue};
 
-// A loudness at or below this is silence, not a level, LUFS.
-pub const SILENCE_LUFS: f64 = -100.0;
-
 // A reading shown to the operator: silence or a level, LUFS or LU. Also what a loop needs, dB: nothing that could be worked out, or a reduction.
 pub enum Shown {
     Silence,

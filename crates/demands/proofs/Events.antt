@@ -2,7 +2,7 @@
 use mathlib.Core.Path.{_≡_, refl, sym, ap, _∙_, subst}
 use mathlib.Core.List.{List, []}
 use Rattle.demands.specs.Calls.{Log, empty, _▹_, Call, event, refusal, gets, passed, answer, Rules, Images, Calls, eventCalls, allCalls, Port, Reference, ofHistory}
-use Rattle.demands.specs.Table.{InTable}
+use Rattle.refusal.specs.Table.{InTable}
 use Rattle.demands.specs.Demands.{History, modelOf, Save, Passes, Refused, after, Story, begins, adds, keeps, stays, returns, said, from, seenFrom, ported, Proper, Demand1, heard, Demand2}
 use Rattle.demands.proofs.Steps.{event-save, event-restore}
 

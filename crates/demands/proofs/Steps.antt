@@ -6,8 +6,8 @@ use Prim.Native.Nat.{ℕ, zero, suc}
 use native.Mathlib.Omega.{arith}
 use lib.ListN.{length}
 use lib.Dec.{eqb}
-use Rattle.demands.specs.declared.Refusal.the-variants.{WrongLength}
-use Rattle.demands.specs.Table.{InTable}
+use Rattle.refusal.specs.declared.Refusal.the-variants.{WrongLength}
+use Rattle.refusal.specs.Table.{InTable}
 use Rattle.demands.specs.Calls.{Bytes, Call, event, save, restore, lentBy, answer, done, Reply, refusal, passed, gets, Rules, Images, Calls, eventCalls, allCalls, Port}
 use Rattle.demands.specs.Demands.{Passes, Refused}
 use Rattle.demands.specs.Laws.{EventLaws, Laws}

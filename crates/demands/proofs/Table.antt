@@ -5,9 +5,9 @@ use mathlib.Core.List.{List, [], _∷_}
 use Prim.Native.Nat.{ℕ, zero, suc, _+_, _≤_, _<_}
 use native.Mathlib.Omega.{arith}
 use lib.ListN.{length}
-use Rattle.demands.specs.declared.Refusal.{Refusal}
-use Rattle.demands.specs.declared.Refusal.the-variants.{ShortFrame, BadSample, BadSetting, Runaway, CounterFull, WrongLength, BadCheck, ForeignImage, NoStrand}
-use Rattle.demands.specs.Table.{numberOf, InTable, Row, _means_, firstNumber}
+use Rattle.refusal.specs.declared.Refusal.{Refusal}
+use Rattle.refusal.specs.declared.Refusal.the-variants.{ShortFrame, BadSample, BadSetting, Runaway, CounterFull, WrongLength, BadCheck, ForeignImage, NoStrand}
+use Rattle.refusal.specs.Table.{numberOf, InTable, Row, _means_, firstNumber}
 
 -- each number is from 1 to 9
 pub number-range : (r : Refusal) → (1 ≤ numberOf r) × (numberOf r ≤ 9)

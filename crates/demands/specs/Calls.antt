@@ -1,11 +1,11 @@
--- What the demands speak of: lists, calls and what is seen of them, document 01's rules, the port, a reference.
+-- What the demands speak of: lists, calls and what is seen of them, the specification's rules, the port, a reference.
 use mathlib.Core.Bool.{cond}
 use mathlib.Core.List.{List, [], _∷_}
 use Prim.Native.Nat.{ℕ, zero, suc}
 use lib.ListN.{length}
 use lib.Dec.{eqb}
-use Rattle.demands.specs.declared.Refusal.the-variants.{WrongLength}
-use Rattle.demands.specs.Table.{numberOf}
+use Rattle.refusal.specs.declared.Refusal.the-variants.{WrongLength}
+use Rattle.refusal.specs.Table.{numberOf}
 
 -- ---- LISTS
 
@@ -65,7 +65,7 @@ abbrev pub coded : {Answer : Type 0} → ℕ → Got Answer → Reply Answer
 coded zero g = passed g
 coded (suc n) g = refusal (suc n)
 
--- ---- DOCUMENT 01
+-- ---- THE SPECIFICATION
 
 -- the rules of the events: frames, settings calls, resets
 pub record Rules : Type 1 where

@@ -1,4 +1,4 @@
--- Dead units that document 01 wants shut out, and the witnesses that a product gives against them.
+-- Dead units that the specification wants shut out, and the witnesses that a product gives against them.
 use mathlib.Core.Path.{_≡_}
 use mathlib.Core.Bool.{Bool, true, false, cond}
 use mathlib.Core.List.{[]}

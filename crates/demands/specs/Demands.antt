@@ -1,12 +1,12 @@
--- The three demands, over whole lists of calls. R and I are document 01's rules, S is the set of calls that a chain takes,
+-- The three demands, over whole lists of calls. R and I are the specification's rules, S is the set of calls that a chain takes,
 -- and `port` is what the delivered functions do (all four: Calls.antt). Events are frames, settings calls and resets.
 use mathlib.Core.Path.{_≡_}
 use mathlib.Core.List.{List, [], _∷_}
 use mathlib.Core.Logic.{_⊎_, _↔_}
-use Rattle.demands.specs.Table.{InTable}
+use Rattle.refusal.specs.Table.{InTable}
 use Rattle.demands.specs.Calls.{Log, empty, _▹_, Among, Bytes, event, save, restore, lentBy, answer, done, Reply, refusal, passed, Seen, gets, Rules, Images, owed, Calls, eventCalls, allCalls, Port, Reference}
 
--- ---- WHAT DOCUMENT 01 SAYS OF A LIST OF CALLS
+-- ---- WHAT THE SPECIFICATION SAYS OF A LIST OF CALLS
 
 abbrev pub History : Rules → Type 0
 History R = Log (R .Event)
@@ -17,7 +17,7 @@ pub record Save (R : Rules) : Type 0 where
   pub wrote : Bytes
 
 module _ (R : Rules) where
-  -- the state that document 01 gives for a history: a fresh chain is fed it in order
+  -- the state that the specification gives for a history: a fresh chain is fed it in order
   unfoldable pub stateOf : History R → R .State
   stateOf empty = R .fresh
   stateOf (h ▹ e) = R .next (stateOf h) e
@@ -130,7 +130,7 @@ module _ (R : Rules) where
         -- or one refusal, with the number that the rules give; it changes no stored number and no byte of a lent buffer;
         pub refused : (cs : Log Sent) (c : Sent) → Refused (after cs) c
             → port (after cs) c ≡ gets (refusal (ruling (after cs) c)) (lentBy (call c)) (after cs)
-        -- the number is one of document 01's table;
+        -- the number is one of the specification's table;
         pub numbered : (cs : Log Sent) (c : Sent) → Refused (after cs) c → InTable (ruling (after cs) c)
         -- and no stored number is ever infinite or not a number.
         pub finite : (cs : Log Sent) → Finite (after cs)
@@ -196,7 +196,7 @@ module _ (R : Rules) where
           pub same : (cs ds : Log Sent) (c d : Sent) (l : Bytes) → call c ≡ save l → Passes (after cs) c → call d ≡ restore (sees cs c .lent)
               → (sees ds d .reply ≡ passed done) × ((fs : Log Sent) → seenFrom (after (ds ▹ d)) fs ≡ seenFrom (after (cs ▹ c)) fs)
 
-        -- ---- Document 01, "Images": from whatever chain a list of calls leaves, restores of foreign images among them,
+        -- ---- The specification, "Images": from whatever chain a list of calls leaves, restores of foreign images among them,
         -- each accepted call gives what the definitions give; a restore gives the state whose image its bytes are.
         pub record Onwards : Type 0 where
           pub goes : (cs : Log Sent) (c : Sent) (e : Event) → call c ≡ event e → Passes (after cs) c

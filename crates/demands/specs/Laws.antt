@@ -1,7 +1,7 @@
 -- What a product proves of its functions, call by call. From these laws the demands follow for whole lists.
 use mathlib.Core.Path.{_≡_}
 use mathlib.Core.List.{[]}
-use Rattle.demands.specs.Table.{InTable}
+use Rattle.refusal.specs.Table.{InTable}
 use Rattle.demands.specs.Calls.{Bytes, event, save, restore, answer, done, refusal, passed, gets, Rules, Images, eventCalls, rulingOf, allCalls, Port, Reference}
 
 module _ (R : Rules) where

@@ -1,4 +1,3 @@
-pub mod Table
 pub mod Calls
 pub mod Demands
 pub mod Laws

@@ -10,7 +10,7 @@ use lib.Dec.{T}
 use lib.Ieee.{Float, nan, inf, fin, binary32, fits, up, down}
 use lib.Ieee.Fits.{nan-fits, inf-fits, round-fits}
 use lib.Ieee.Scale.{finite}
-use Rattle.level.specs.Finite.{allFinite}
+use Rattle.float.specs.AllFinite.{allFinite}
 use Rattle.narrow.specs.Narrow.{narrowOf}
 use Rattle.detector.specs.Filters.{eighths, handedOf, keptOf}
 

@@ -1,4 +1,4 @@
--- The examples of document 01 for the smooth step, computed.
+-- The examples of the specification for the smooth step, computed.
 use mathlib.Core.Path.{refl}
 use lib.Ieee.{add, sub, mul, div, lt, round, ofInt, ofBits}
 use Rattle.float.specs.Choice.{clampOf}

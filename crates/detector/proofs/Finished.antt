@@ -6,8 +6,8 @@ use mathlib.Core.List.{List, append-nil, _++_}
 use lib.ListN.{length, take, length-take, length-drop, length-append, length-replicate, drop-of-length-le}
 use lib.Seq.{take-all}
 use lib.Ieee.{Float}
-use Rattle.level.specs.Bs1770.{zero64}
-use Rattle.level.specs.Finite.{allFinite}
+use Rattle.float.specs.Arithmetic.{zero64}
+use Rattle.float.specs.AllFinite.{allFinite}
 use Rattle.sequence.specs.History.{held, laid}
 use Rattle.detector.specs.declared.Bands.{Bands}
 use Rattle.detector.specs.declared.Decimated.{Decimated}

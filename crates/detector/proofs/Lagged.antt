@@ -9,7 +9,7 @@ use lib.ListN.{length, drop, getD, set, length-drop, length-set}
 use lib.Seq.{drop-cons, getD-set-same, getD-set-other}
 use borrow.Author.Count.{below-more}
 use lib.Ieee.{Float, nan}
-use Rattle.level.specs.Bs1770.{_⊕_, _⊗_, zero64}
+use Rattle.float.specs.Arithmetic.{_⊕_, _⊗_, zero64}
 use Rattle.detector.specs.declared.Eight.{Eight}
 use Rattle.detector.specs.Voicing.{productsFrom, correlationOf, Correlations}
 

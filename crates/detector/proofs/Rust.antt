@@ -31,7 +31,7 @@ use Rattle.detector.specs.declared.FeatureDetector.{FeatureDetector}
 use Rattle.detector.specs.Steps.{dbOf}
 use Rattle.detector.specs.Modulation.{historyOf, modulationOf}
 use Rattle.detector.specs.Detector.{noDecimated, noMinima, noHistory, freshOf, frame64, powersOf, withFeatures, shownOf, finishOf, frameOf}
-use Rattle.level.specs.Bs1770.{whole, zero64}
+use Rattle.float.specs.Arithmetic.{zero64, whole}
 use Rattle.level.proofs.Finite.{all-at}
 use Rattle.detector.proofs.Finished.{samples-all}
 use Rattle.detector.proofs.Told.{numbers, told}

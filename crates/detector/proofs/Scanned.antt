@@ -8,7 +8,7 @@ use lib.ListN.{length, take, drop, length-take, length-drop}
 use lib.Seq.{take-add, take-all}
 use lib.Ieee.{Float}
 use borrow.Author.Tests.{lt-ltb, le-ltb}
-use Rattle.level.specs.Bs1770.{zero64}
+use Rattle.float.specs.Arithmetic.{zero64}
 use Rattle.sequence.specs.History.{held, latest}
 use Rattle.sequence.proofs.Latest.{latest-all}
 use Rattle.detector.specs.declared.Ends.{Ends}

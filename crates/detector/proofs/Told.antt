@@ -5,7 +5,7 @@ use lib.Dec.{T}
 use lib.Ieee.{Float}
 use lib.Ieee.Fits.{and-l, and-r}
 use Rattle.sequence.specs.History.{held}
-use Rattle.level.specs.Finite.{allFinite}
+use Rattle.float.specs.AllFinite.{allFinite}
 use Rattle.detector.specs.declared.Bands.{Bands}
 use Rattle.detector.specs.declared.FeatureDetector.{FeatureDetector}
 use Rattle.detector.specs.Filters.{handedOf, keptOf, keepOf}

@@ -14,7 +14,7 @@ use Rattle.biquad.specs.Tick.{tickOf}
 use Rattle.float.specs.Choice.{minOf, maxOf}
 use Rattle.float.specs.Valid.{Num}
 use Rattle.sequence.proofs.Counted.{counted-none, counted-more}
-use Rattle.level.specs.Bs1770.{_⊗_, zero64}
+use Rattle.float.specs.Arithmetic.{_⊗_, zero64, ten64}
 use Rattle.logarithm.specs.Logarithm.{log10Of}
 use Rattle.level.proofs.Finite.{all-at}
 use Rattle.detector.specs.declared.Filters.{Filters}
@@ -24,7 +24,7 @@ use Rattle.detector.specs.declared.Smoothed.the-variants.{Unset, At}
 use Rattle.detector.specs.declared.Floor.{Floor}
 use Rattle.detector.specs.declared.Floored.{Floored}
 use Rattle.detector.specs.declared.FeatureDetector.{FeatureDetector}
-use Rattle.detector.specs.Steps.{ten64, silenceDb, dbOf}
+use Rattle.detector.specs.Steps.{silenceDb, dbOf}
 use Rattle.detector.specs.Filters.{begun, stepOf, runOf, outputsOf, samplesOf, keptOf, keepOf}
 use Rattle.detector.specs.Floor.{smoothedOf, windowMinOf, minimaOf, nextOf, storedOf, floorOf}
 use Rattle.detector.specs.Modulation.{historyOf, modulationOf}

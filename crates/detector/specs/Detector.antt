@@ -5,8 +5,8 @@ use lib.ListN.{replicate}
 use lib.Ieee.{Float, binary32, binary64, lt, neg, ofBits}
 use Rattle.float.specs.Choice.{maxOf}
 use Rattle.sequence.specs.History.{held}
-use Rattle.level.specs.Bs1770.{_⊕_, _⊖_, _⊗_, _⊘_, zero64}
-use Rattle.level.specs.Finite.{allFinite}
+use Rattle.float.specs.Arithmetic.{_⊕_, _⊖_, _⊗_, _⊘_, zero64}
+use Rattle.float.specs.AllFinite.{allFinite}
 use Rattle.detector.specs.declared.Filters.{Filters}
 use Rattle.detector.specs.declared.Bands.{Bands}
 use Rattle.detector.specs.declared.Decimated.{Decimated}

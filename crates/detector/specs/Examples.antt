@@ -1,4 +1,4 @@
--- The examples of document 01 for the smooth step.
+-- The examples of the specification for the smooth step.
 use mathlib.Core.Path.{_≡_}
 use lib.IntN.{pos}
 use lib.Ieee.{binary64, ofInt, ofBits}

@@ -10,8 +10,9 @@ use Rattle.biquad.specs.declared.Ticked.{Ticked}
 use Rattle.biquad.specs.Sections.{bandHighPass, bandLowPass, pitch1, pitch2}
 use Rattle.narrow.specs.Narrow.{narrowOf}
 use Rattle.sequence.specs.History.{laid, countAfter, placesAfter}
-use Rattle.level.specs.Bs1770.{_⊕_, _⊗_, zero64}
-use Rattle.level.specs.Same.{sameOf, allSame, sameState}
+use Rattle.float.specs.Arithmetic.{_⊕_, _⊗_, zero64}
+use Rattle.level.specs.Rest.{sameState}
+use Rattle.float.specs.Same.{sameOf, allSame}
 use Rattle.detector.specs.declared.Filters.{Filters}
 use Rattle.detector.specs.declared.Bands.{Bands}
 use Rattle.detector.specs.declared.Decimated.{Decimated}

@@ -6,7 +6,7 @@ use lib.Dec.{ltb, eqb}
 use lib.Ieee.{Float, binary64, ofBits}
 use Rattle.float.specs.Choice.{minOf}
 use Rattle.sequence.specs.History.{held, countAfter, placesAfter}
-use Rattle.level.specs.Bs1770.{_⊕_, _⊖_, _⊗_, zero64}
+use Rattle.float.specs.Arithmetic.{_⊕_, _⊖_, _⊗_, zero64}
 use Rattle.detector.specs.declared.Smoothed.{Smoothed}
 use Rattle.detector.specs.declared.Smoothed.the-variants.{Unset, At}
 use Rattle.detector.specs.declared.Minima.{Minima}

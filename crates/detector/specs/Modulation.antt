@@ -4,7 +4,7 @@ use lib.ListN.{length}
 use lib.Ieee.{Float}
 use Rattle.root.specs.Root.{sqrtOf}
 use Rattle.sequence.specs.History.{held, countAfter, placesAfter}
-use Rattle.level.specs.Bs1770.{_⊕_, _⊖_, _⊗_, _⊘_, zero64, whole}
+use Rattle.float.specs.Arithmetic.{_⊕_, _⊖_, _⊗_, _⊘_, zero64, whole}
 use Rattle.detector.specs.declared.History.{History}
 use Rattle.detector.specs.declared.Modulated.{Modulated}
 

@@ -10,7 +10,7 @@ use Rattle.float.specs.Choice.{minOf}
 use Rattle.narrow.specs.Narrow.{narrowOf}
 use Rattle.root.specs.Root.{sqrtOf}
 use Rattle.sequence.specs.History.{pushed}
-use Rattle.level.specs.Bs1770.{_⊖_, _⊘_, whole}
+use Rattle.float.specs.Arithmetic.{_⊖_, _⊘_, whole}
 use Rattle.detector.specs.declared.Filters.{Filters}
 use Rattle.detector.specs.declared.Bands.{Bands}
 use Rattle.detector.specs.declared.Smoothed.{Smoothed}

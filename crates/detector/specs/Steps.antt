@@ -3,16 +3,7 @@ use mathlib.Core.Bool.{cond}
 use lib.Ieee.{Float, binary64, lt, ofBits}
 use Rattle.float.specs.Choice.{maxOf, clampOf}
 use Rattle.logarithm.specs.Logarithm.{log10Of}
-use Rattle.level.specs.Bs1770.{_⊖_, _⊗_, _⊘_, zero64, one64}
-
-abbrev pub two64 : Float
-two64 = ofBits binary64 0x4000000000000000
-
-abbrev pub three64 : Float
-three64 = ofBits binary64 0x4008000000000000
-
-abbrev pub ten64 : Float
-ten64 = ofBits binary64 0x4024000000000000
+use Rattle.float.specs.Arithmetic.{_⊖_, _⊗_, _⊘_, zero64, one64, two64, three64, ten64}
 
 abbrev pub smooth : Float → Float
 smooth t = t ⊗ t ⊗ (three64 ⊖ two64 ⊗ t)

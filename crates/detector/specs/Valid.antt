@@ -5,7 +5,7 @@ use mathlib.Core.Path.{_≡_}
 use lib.Ieee.{binary32, binary64, ofBits}
 use Rattle.float.specs.Valid.{Num}
 use Rattle.sequence.specs.Counted.{Counted}
-use Rattle.level.specs.Bs1770.{zero64}
+use Rattle.float.specs.Arithmetic.{zero64}
 use Rattle.level.specs.Valid.{Settled}
 use Rattle.detector.specs.declared.Smoothed.{Smoothed}
 use Rattle.detector.specs.declared.Smoothed.the-variants.{Unset, At}

@@ -9,7 +9,7 @@ use lib.Ieee.Scale.{finite}
 use Rattle.float.specs.Choice.{maxOf, minOf}
 use Rattle.root.specs.Root.{sqrtOf}
 use Rattle.sequence.specs.History.{latest}
-use Rattle.level.specs.Bs1770.{_⊕_, _⊖_, _⊗_, _⊘_, zero64}
+use Rattle.float.specs.Arithmetic.{_⊕_, _⊖_, _⊗_, _⊘_, zero64}
 use mathlib.Core.Path.{_≡_}
 use Rattle.detector.specs.declared.Eight.{Eight}
 use Rattle.detector.specs.declared.Ends.{Ends}

@@ -25,7 +25,7 @@ ghost use Rattle.detector.specs.Filters.{
   keptOf,
   keepOf,
 };
-ghost use Rattle.level.specs.Finite.{allFinite};
+ghost use Rattle.float.specs.AllFinite.{allFinite};
 ghost use Rattle.detector.specs.Detector.{
   noDecimated,
   noMinima,
@@ -148,16 +148,16 @@ impl Bands {
         let f = n.filters;
         let g = self.filters;
         f.same(g)
-            & level::same(n.full, self.full)
-            & level::same(n.band, self.band)
-            & level::same(n.pitch, self.pitch)
+            & float::same(n.full, self.full)
+            & float::same(n.band, self.band)
+            & float::same(n.pitch, self.pitch)
     }
 
     // Whether all samples are v and change nothing after the first.
     pub fn quiet(self, v: f64, xs: &[f64]) -> bool
         ensures { λ r. ⌜ (r ≡ quietOf self v (now (xs .entry))) × (T r → Quiet self v (now (xs .entry))) ⌝ }
     {
-        if level::all_same(v, xs) {
+        if float::all_same(v, xs) {
             let first = self.step(v);
             return first.still(v);
         }
@@ -813,19 +813,6 @@ fn decimate(ys: &[f64]) -> [f32; 60]
     v
 }
 
-// Whether every number of v is finite. It has no early end, so that the processor tests four at once.
-pub fn all_finite32(v: &[f32]) -> bool
-    ensures { λ r. ⌜ r ≡ allFinite (now (v .entry)) ⌝ }
-{
-    let mut finite = true;
-    let mut i = 0;
-    while i < v.len() {
-        finite = finite & float::finite32(v[i]);
-        i += 1;
-    }
-    finite
-}
-
 impl Features {
     // The speech probability: energy times modulation times (0.3 + 0.7 * voicing), each a smooth step; 0 for a pure tone.
     pub fn probability(self) -> f64
@@ -875,7 +862,7 @@ impl Filters {
         let p = self.pitch1;
         let q = self.pitch2;
         let numbers = [a.z1, a.z2, b.z1, b.z2, p.z1, p.z2, q.z1, q.z2];
-        level::all_finite(&numbers)
+        float::all_finite(&numbers)
     }
 }
 
@@ -936,8 +923,8 @@ fn sound(
         float::max(0.0, powers.band),
         modulated.variance,
     ];
-    let stored = filters.all_finite() & level::all_finite(&numbers);
-    stored & (all_finite32(&values) & voicing.finite)
+    let stored = filters.all_finite() & float::all_finite(&numbers);
+    stored & (float::all_finite32(&values) & voicing.finite)
 }
 
 fn no_decimated() -> [f32; 240]

@@ -5,10 +5,11 @@ use Prim.Native.String.{String, [], _∷_}
 use mathlib.Core.Bool.{Bool, true, false, cond}
 use mathlib.Core.List.{List, [] as none, _∷_ as _then_, _++_}
 use lib.Dec.{eqb, ltb}
-use lib.Ieee.{Float, binary32, binary64, mul, ofBits, toUnsigned}
+use lib.Ieee.{Float, binary32, binary64, ofBits, toUnsigned}
 use lib.ListN.{length}
+use Rattle.float.specs.Arithmetic.{_⊗_, hundred64}
 use Rattle.float.specs.Whole.{roundOf}
-use Rattle.demands.specs.Table.{numberOf}
+use Rattle.refusal.specs.Table.{numberOf}
 use Rattle.level.specs.Bs1770.{frameLength}
 use Rattle.blocks.specs.Lists.{laid, table}
 use Rattle.blocks.specs.Words.{word4}
@@ -85,7 +86,7 @@ activeName false = "0"
 
 -- a reduction, dB, in hundredths of a dB: a hundred times it, to the nearest whole number; as Rust's cast has it, 0 where that is below 0
 unfoldable pub hundredthsOf : Float → ℕ
-hundredthsOf x = toUnsigned 64 (roundOf binary64 (mul binary64 x (ofBits binary64 0x4059000000000000)))
+hundredthsOf x = toUnsigned 64 (roundOf binary64 (x ⊗ hundred64))
 
 -- the words of an answer: the state, whether the key and the bed speak, and the rounded reduction
 abbrev pub answerWords : Answer → List (List ℕ)

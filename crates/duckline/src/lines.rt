@@ -98,7 +98,7 @@ pub fn frame(text: &mut [u8; TEXT], at: usize, number: u64, outcome: Outcome) ->
         Outcome::Passed(a) => put_answer(text, middle, a),
         Outcome::Refused(refusal) => {
             let code = put(text, middle, b" refused ");
-            let end = put_number(text, code, demands::number(refusal));
+            let end = put_number(text, code, refusal::number(refusal));
             put(text, end, b"\n")
         }
     }

@@ -1,4 +1,4 @@
--- What the bits of an f64 tell of its kind, and what its kind tells of it. Assumes nothing.
+-- What the bits of an f64 tell of its kind, and what its kind tells of it.
 use mathlib.Core.Path.{_≡_, refl, sym, ap, ap₂, _∙_, subst}
 use mathlib.Core.Bool.{Bool, true, false, not, cond}
 use Prim.Native.Nat.{ℕ, zero, suc, _+_, _-_, _*_, _/_, _%_, _^_, _≤_, _<_}
@@ -18,9 +18,13 @@ use Rattle.float.proofs.Units.{Split, split}
 
 -- ---- from the bits to the kind
 
+-- a value that differs from itself is the NaN
+pub the-nan : (x : Float) → ne x x ≡ true → x ≡ nan
+the-nan x h = differs-from-itself x (subst T (sym h) tt)
+
 pub no-number : (x : Float) → ne x x ≡ true → NotANumber ≡ kindOf x
 unfolding kindOf
-no-number x h = subst (λ (v : Float). NotANumber ≡ kindOf v) (sym (differs-from-itself x (subst T (sym h) tt))) refl
+no-number x h = subst (λ (v : Float). NotANumber ≡ kindOf v) (sym (the-nan x h)) refl
 
 pub number : (x : Float) → ne x x ≡ false → T (not (isNan x))
 unfolding isNan

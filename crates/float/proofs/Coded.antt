@@ -1,4 +1,4 @@
--- The bit pattern of q * 2 ^ k smallest values of a format is k times the weight of the exponent's field, and q. Assumes nothing.
+-- The bit pattern of q * 2 ^ k smallest values of a format is k times the weight of the exponent's field, and q.
 -- A format of r + 1 digits whose values lie below 2 ^ (r + M) smallest ones: binary32 has r = 23 and M = 254, binary64 r = 52 and M = 2046.
 use mathlib.Core.Path.{_≡_, refl, sym, ap, ap₂, _∙_, subst}
 use mathlib.Core.Bool.{Bool, true, false, not, cond}

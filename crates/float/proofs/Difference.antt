@@ -1,4 +1,4 @@
--- A value less itself is zero exactly where it is finite. Assumes nothing.
+-- A value less itself is zero exactly where it is finite.
 use Prim.Native.Nat.{ℕ, _-_, _*_, _<_}
 use native.Mathlib.Nat.{le-refl, mul-pos, zero-mul}
 use native.Mathlib.Omega.{arith}

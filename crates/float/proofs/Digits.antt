@@ -1,4 +1,4 @@
--- How many binary digits a number has. Assumes nothing.
+-- How many binary digits a number has.
 use mathlib.Core.Path.{_≡_, sym, ap, _∙_}
 use Prim.Native.Nat.{ℕ, suc, _+_, _-_, _/_, _^_, _≤_, _<_}
 use native.Mathlib.Nat.{le-trans, le-of-eq, lt-of-lt-of-le, le-antisymm, lt-of-not-le, lt-irrefl, le-refl, div-eq-of-lt, le-div-iff-mul-le, div-lt-iff-lt-mul}

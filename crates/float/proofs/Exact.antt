@@ -12,7 +12,7 @@ use lib.Ieee.Digits.{back}
 use lib.Ieee.Bits.{ofBits-toBits}
 use lib.Ieee.Nearest.{div-same}
 use lib.Ieee.Exact.{HasValue, round-exact}
-use Rattle.float.specs.Valid.{Sum}
+use Rattle.float.specs.Valid.{NoMinus}
 
 -- ---- two values that fit, of one sign and one size, are one
 
@@ -110,7 +110,7 @@ one-times f (inf false) t = refl
 one-times f (fin true m e) t = ap (λ (z : ℕ). round f true z (1 * down e)) (one-mul (m * up e)) ∙ ap (round f true (m * up e)) (one-mul (down e)) ∙ round-back f true m e t
 one-times f (fin false m e) t = ap (λ (z : ℕ). round f false z (1 * down e)) (one-mul (m * up e)) ∙ ap (round f false (m * up e)) (one-mul (down e)) ∙ round-back f false m e t
 
-pub nil-and : (f : Format) (x : Float) → Sum f x → add f nil x ≡ x
+pub nil-and : (f : Format) (x : Float) → NoMinus f x → add f nil x ≡ x
 unfolding add sum
 nil-and f nan t = refl
 nil-and f (inf true) t = absurd (t .0)
@@ -118,7 +118,7 @@ nil-and f (inf false) t = refl
 nil-and f (fin true m e) t = absurd (t .0)
 nil-and f (fin false m e) t = rw (zero-mul, zero-add, mul-one, one-mul) (round-back f false m e (t .1))
 
-pub and-nil : (f : Format) (x : Float) → Sum f x → add f x nil ≡ x
+pub and-nil : (f : Format) (x : Float) → NoMinus f x → add f x nil ≡ x
 unfolding add sum
 and-nil f nan t = refl
 and-nil f (inf true) t = absurd (t .0)

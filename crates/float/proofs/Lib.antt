@@ -10,3 +10,4 @@ pub mod Classified
 pub mod Coded
 pub mod Patterns
 pub mod Powers
+pub mod Sameness

@@ -5,7 +5,7 @@ use mathlib.Core.Bool.{Bool, true, false, cond}
 use lib.Dec.{T, eqb, ltb}
 use lib.Ieee.{Float, nan, inf, fin, Format, prec, emax, low, up, down, odd, units, round, sum, add, mul, div}
 use lib.Ieee.Fits.{add-fits, mul-fits, div-fits, round-is}
-use Rattle.float.specs.Valid.{plus, Sum}
+use Rattle.float.specs.Valid.{plus, NoMinus}
 
 pick-plus : (b : Bool) (x y : Float) → T (plus x) → T (plus y) → T (plus (cond b x y))
 pick-plus true x y p q = p
@@ -80,11 +80,11 @@ div-plus f (fin false m e) (fin false n d) p q =
 
 -- ---- and the format holds them
 
-pub add-sum : (f : Format) (x y : Float) → T (plus x) → T (plus y) → Sum f (add f x y)
+pub add-sum : (f : Format) (x y : Float) → T (plus x) → T (plus y) → NoMinus f (add f x y)
 add-sum f x y p q = (add-plus f x y p q, add-fits f x y)
 
-pub square-sum : (f : Format) (x : Float) → Sum f (mul f x x)
+pub square-sum : (f : Format) (x : Float) → NoMinus f (mul f x x)
 square-sum f x = (square-plus f x, mul-fits f x x)
 
-pub div-sum : (f : Format) (x y : Float) → T (plus x) → T (plus y) → Sum f (div f x y)
+pub div-sum : (f : Format) (x y : Float) → T (plus x) → T (plus y) → NoMinus f (div f x y)
 div-sum f x y p q = (div-plus f x y p q, div-fits f x y)

@@ -1,4 +1,4 @@
--- Laws of powers that the native library lacks, and a form of Bernoulli's inequality. Assumes nothing.
+-- Laws of powers that the native library lacks, and a form of Bernoulli's inequality.
 use mathlib.Core.Path.{_≡_, sym, ap, ap₂, _∙_}
 use Prim.Native.Nat.{ℕ, zero, suc, _+_, _-_, _*_, _^_, _≤_, _<_}
 use native.Mathlib.Nat.{mul-assoc, mul-comm, mul-one, mul-mul-mul-comm, mul-right-comm, mul-add, add-mul, pow-zero, pow-suc, mul-le-mul-left, mul-le-mul-right, mul-suc, le-of-mul-le-mul-right, suc-mul}

@@ -14,7 +14,8 @@ use lib.Ieee.Exact.{HasValue, round-exact}
 use lib.Ieee.Back.{round-whole}
 use lib.Ieee.Nearest.{div-same}
 use lib.Ieee.Scale.{round-same}
-use Rattle.float.specs.Whole.{nearestUp, roundOf, zero64, limit}
+use Rattle.float.specs.Whole.{nearestUp, roundOf, limit}
+use Rattle.float.specs.Arithmetic.{zero64}
 use Rattle.float.proofs.Exact.{round-back, few, places, up-places, held, unique}
 
 -- ---- the halves of a / c

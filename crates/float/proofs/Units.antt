@@ -1,4 +1,4 @@
--- A finite f64 is a whole number of units of 2 ^ -1074, of which 53 digits count. Assumes nothing.
+-- A finite f64 is a whole number of units of 2 ^ -1074, of which 53 digits count.
 use mathlib.Core.Path.{_≡_, refl, sym, ap, _∙_}
 use mathlib.Core.Bool.{Bool}
 use Prim.Native.Nat.{ℕ, zero, suc, _+_, _-_, _*_, _/_, _^_, _≤_, _<_}

@@ -1,4 +1,4 @@
--- max, min and clamp as document 01 words them. Definitions only.
+-- max, min and clamp as the specification words them. Definitions only.
 use mathlib.Core.Bool.{Bool, cond}
 use lib.Ieee.{Float, lt}
 

@@ -1,3 +1,7 @@
+pub mod Arithmetic
+pub mod AllFinite
+pub mod Same
+pub mod Silence
 pub mod Valid
 pub mod Units
 pub mod Kind

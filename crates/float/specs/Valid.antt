@@ -15,5 +15,5 @@ plus (inf s) = not s
 plus (fin s m e) = not s
 
 -- no minus sign, and held by the format: a sum of squares on its way
-abbrev pub Sum : Format → Float → Type 0
-Sum f x = T (plus x) × T (fits f x)
+abbrev pub NoMinus : Format → Float → Type 0
+NoMinus f x = T (plus x) × T (fits f x)

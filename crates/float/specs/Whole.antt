@@ -34,10 +34,7 @@ pub record Rounded (x y : Float) : Type 0 where
   pub number : (s : Bool) (a c : ℕ) → 0 < c → HasValue x s a c → (n : ℕ) × NearestWhole a c n × HasValue y s n 1
   pub other : finite x ≡ false → y ≡ x
 
--- ---- two constants of the code
-
-abbrev pub zero64 : Float
-zero64 = ofBits binary64 0
+-- ---- a constant of the code
 
 -- 2 ^ 52: from here on an f64 is whole
 abbrev pub limit : Float

@@ -1,14 +1,22 @@
 // Floats: what kind of f64 a value is, and the choices, the rounding and the finite tests that all other modules compute with.
 ghost use mathlib.Core.Path.{_≡_};
 ghost use mathlib.Core.Bool.{cond, true};
-ghost use lib.Ieee.{binary32, binary64, lt, ofBits};
+ghost use lib.Dec.{T};
+ghost use lib.ListN.{length, replicate};
+ghost use lib.Ieee.{binary32, binary64, lt, ofBits, toBits};
 ghost use lib.Ieee.Scale as scale;
 ghost use Rattle.float.specs.Kind.{kindOf, fieldParts};
+ghost use Rattle.float.specs.AllFinite.{allFinite};
+ghost use Rattle.float.specs.Same.{sameOf, allSame};
 ghost use Rattle.float.specs.Choice.{maxOf, minOf, clampOf};
-ghost use Rattle.float.specs.Whole.{zero64, limit, roundOf};
+ghost use Rattle.float.specs.Whole.{limit, roundOf};
+ghost use Rattle.float.specs.Arithmetic.{zero64};
 
 // A loudness, LUFS.
 pub struct Lufs(pub f64);
+
+// The loudness of silence, LUFS: no reading is below it, and one at it is no level.
+pub const SILENCE_LUFS: f64 = -100.0;
 
 // A reduction or another difference of levels, dB.
 pub struct Db(pub f64);
@@ -37,6 +45,10 @@ const SIGN32: u32 = 2147483648; // 2^31
 
 const INFINITE32: u32 = 2139095040; // 255 * 2^23
 
+const NOT_A_NUMBER: u64 = 0x7ff8_0000_0000_0000; // the bits that stand for every NaN
+
+const NOT_A_NUMBER32: u32 = 0x7fc0_0000;
+
 // The f64 with these bits. Every NaN's pattern stands for one and the same NaN.
 pub fn from_bits(bits: u64) -> f64
     ensures { λ r. ⌜ r ≡ ofBits binary64 bits ⌝ }
@@ -55,6 +67,26 @@ pub fn from_bits32(bits: u32) -> f32
         return 0.0 / 0.0;
     }
     f32::from_bits(bits)
+}
+
+// The bits of x. Every NaN has the same.
+pub fn to_bits(x: f64) -> u64
+    ensures { λ r. ⌜ r ≡ toBits binary64 x ⌝ }
+{
+    if x != x {
+        return NOT_A_NUMBER;
+    }
+    f64::to_bits(x)
+}
+
+// The bits of x. Every NaN has the same.
+pub fn to_bits32(x: f32) -> u32
+    ensures { λ r. ⌜ r ≡ toBits binary32 x ⌝ }
+{
+    if x != x {
+        return NOT_A_NUMBER32;
+    }
+    f32::to_bits(x)
 }
 
 // The parts that the bits a below the sign stand for.
@@ -104,6 +136,62 @@ pub fn finite32(x: f32) -> bool
     ensures { λ r. ⌜ r ≡ scale.finite x ⌝ }
 {
     x - x == 0.0f32
+}
+
+// Whether every number of v is finite.
+pub fn all_finite(v: &[f64]) -> bool
+    ensures { λ r. ⌜ r ≡ allFinite (now (v .entry)) ⌝ }
+{
+    let mut i = 0;
+    while i < v.len() {
+        if finite(v[i]) {
+            i += 1;
+        } else {
+            return false;
+        }
+    }
+    true
+}
+
+// Whether every number of v is finite. It has no early end, so that the processor tests four at once.
+pub fn all_finite32(v: &[f32]) -> bool
+    ensures { λ r. ⌜ r ≡ allFinite (now (v .entry)) ⌝ }
+{
+    let mut finite = true;
+    let mut i = 0;
+    while i < v.len() {
+        finite = finite & finite32(v[i]);
+        i += 1;
+    }
+    finite
+}
+
+// Whether a and b have the same bits; not where one is a NaN.
+pub fn same(a: f64, b: f64) -> bool
+    ensures { λ r. ⌜ (r ≡ sameOf a b) × (T r → a ≡ b) ⌝ }
+{
+    if a != a {
+        return false;
+    }
+    if b != b {
+        return false;
+    }
+    f64::to_bits(a) == f64::to_bits(b)
+}
+
+// Whether every value is the same as x.
+pub fn all_same(x: f64, xs: &[f64]) -> bool
+    ensures { λ r. ⌜ (r ≡ allSame x (now (xs .entry))) × (T r → now (xs .entry) ≡ replicate (length (now (xs .entry))) x) ⌝ }
+{
+    let mut i = 0;
+    while i < xs.len() {
+        if same(xs[i], x) {
+            i += 1;
+        } else {
+            return false;
+        }
+    }
+    true
 }
 
 // The first value where the test holds, else the second.

@@ -7,8 +7,8 @@ use lib.ListN.{length}
 use Rattle.blocks.specs.Lists.{Bytes}
 use Rattle.blocks.specs.Words.{firstBad}
 use Rattle.blocks.specs.Image.{payloadOf, OneWord}
-use Rattle.demands.specs.declared.Refusal.the-variants.{BadCheck, ForeignImage}
-use Rattle.demands.specs.Table.{numberOf}
+use Rattle.refusal.specs.declared.Refusal.the-variants.{BadCheck, ForeignImage}
+use Rattle.refusal.specs.Table.{numberOf}
 use Rattle.demands.specs.Calls.{Log, Call, allCalls}
 use Rattle.demands.specs.Demands.{after}
 use Rattle.chain.specs.declared.Chain.{Chain}
@@ -36,6 +36,6 @@ pub record ImageLaws : Type 0 where
   -- bytes of the right length whose checks hold are refused with 8 exactly where no valid chain has these words,
   pub foreign-unknown : (b : List ℕ) → Bytes b → length b ≡ imageBytes → firstBad b ≡ blockCount
       → (refusesImage b ≡ numberOf ForeignImage) ↔ ((c : Chain) × Valid c × (wordsOf c ≡ payloadOf b) → ⊥)
-  -- that is, where a word breaks one of document 01's rules
+  -- that is, where a word breaks one of the specification's rules
   pub foreign-words : (b : List ℕ) → Bytes b → length b ≡ imageBytes → firstBad b ≡ blockCount
       → (refusesImage b ≡ numberOf ForeignImage) ↔ (PayloadWords (payloadOf b) → ⊥)

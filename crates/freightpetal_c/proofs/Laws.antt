@@ -8,8 +8,8 @@ use native.Mathlib.Omega.{arith}
 use borrow.Author.Tests.{eq-eqb, ne-eqb}
 use lib.Ieee.{Float}
 use lib.ListN.{length}
-use Rattle.demands.specs.Table.{numberOf}
-use Rattle.demands.specs.declared.Refusal.the-variants.{WrongLength}
+use Rattle.refusal.specs.Table.{numberOf}
+use Rattle.refusal.specs.declared.Refusal.the-variants.{WrongLength}
 use Rattle.demands.specs.Calls.{Log, empty, _▹_, Call, event, save, restore, Reply, refusal, passed, answer, Step, gets}
 use Rattle.demands.specs.Demands.{from}
 use Rattle.demands.proofs.Demands.{from-valid}

@@ -6,8 +6,8 @@ use Prim.Native.Nat.{ℕ}
 use lib.Dec.{eqb}
 use lib.Ieee.{Float}
 use lib.ListN.{length}
-use Rattle.demands.specs.declared.Refusal.the-variants.{WrongLength}
-use Rattle.demands.specs.Table.{numberOf}
+use Rattle.refusal.specs.declared.Refusal.the-variants.{WrongLength}
+use Rattle.refusal.specs.Table.{numberOf}
 use Rattle.demands.specs.Calls.{Log, empty, _▹_, Call, event, save, restore, Reply, refusal, passed, answer, done, Step, allCalls}
 use Rattle.demands.specs.Demands.{from}
 use Rattle.chain.specs.declared.Chain.{Chain}

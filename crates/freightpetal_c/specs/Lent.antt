@@ -2,7 +2,7 @@
 use mathlib.Core.List.{List}
 use Prim.Native.Nat.{ℕ}
 use lib.Ieee.{Float}
-use Rattle.demands.specs.Table.{numberOf}
+use Rattle.refusal.specs.Table.{numberOf}
 use Rattle.chain.specs.declared.Chain.{Chain}
 use Rattle.chain.specs.declared.Changed.{Changed}
 use Rattle.chain.specs.declared.Framed.{Framed}
@@ -15,7 +15,7 @@ use Rattle.chain.specs.Chain.{freshOf, frameOf, setOf, resetOf}
 use Rattle.image.specs.Image.{image, saveVerdict, savedIn, restoreOf}
 use Rattle.words.specs.Words.{answerWords}
 
--- document 01's number; 0: passed
+-- the specification's number; 0: passed
 abbrev pub codeOf : Verdict → ℕ
 codeOf verdict.Passed = 0
 codeOf (verdict.Refused r) = numberOf r

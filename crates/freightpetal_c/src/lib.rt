@@ -1,5 +1,5 @@
 // The calls for C and Rust. The caller lends 10,752 bytes that hold the chain's image: a call restores the chain from them, runs, and saves it
-// back. Each answers a number of document 01's table, 0 where it passed; a refusal changes nothing that is lent. library/freightpetal.h has
+// back. Each answers a number of the specification's table, 0 where it passed; a refusal changes nothing that is lent. library/freightpetal.h has
 // the declarations.
 ghost use mathlib.Core.Path.{_≡_};
 ghost use Rattle.chain.specs.Chain.{freshOf, frameOf};
@@ -18,7 +18,7 @@ fn code(v: Verdict) -> u64
 {
     match v {
         Verdict::Passed => 0,
-        Verdict::Refused(refusal) => demands::number(refusal),
+        Verdict::Refused(refusal) => refusal::number(refusal),
     }
 }
 
@@ -52,7 +52,7 @@ fn framed(image: &mut [u8], f: Framed, answer: &mut [u64; 41]) -> u64
             *answer = words::answer(a);
             0
         }
-        Outcome::Refused(refusal) => demands::number(refusal),
+        Outcome::Refused(refusal) => refusal::number(refusal),
     }
 }
 
@@ -72,7 +72,7 @@ pub extern "C" fn freightpetal_frame(
     let chain = c.chain;
     match verdict {
         Verdict::Passed => framed(image, freightpetal::frame(chain, key, bed), answer),
-        Verdict::Refused(refusal) => demands::number(refusal),
+        Verdict::Refused(refusal) => refusal::number(refusal),
     }
 }
 
@@ -87,7 +87,7 @@ fn changed(image: &mut [u8], c: Changed) -> u64
             freightpetal::save(next, image);
             0
         }
-        Verdict::Refused(refusal) => demands::number(refusal),
+        Verdict::Refused(refusal) => refusal::number(refusal),
     }
 }
 
@@ -101,7 +101,7 @@ pub extern "C" fn freightpetal_settings(image: &mut [u8], settings: &[u64; 12]) 
     let chain = c.chain;
     match verdict {
         Verdict::Passed => changed(image, freightpetal::set(chain, words::settings(settings))),
-        Verdict::Refused(refusal) => demands::number(refusal),
+        Verdict::Refused(refusal) => refusal::number(refusal),
     }
 }
 
@@ -115,7 +115,7 @@ pub extern "C" fn freightpetal_reset(image: &mut [u8], strand: u64) -> u64
     let chain = c.chain;
     match verdict {
         Verdict::Passed => changed(image, freightpetal::reset(chain, strand)),
-        Verdict::Refused(refusal) => demands::number(refusal),
+        Verdict::Refused(refusal) => refusal::number(refusal),
     }
 }
 

@@ -11,7 +11,7 @@ use Rattle.blocks.specs.Words.{blocksIn, checkedWords, firstBad}
 use Rattle.blocks.specs.Image.{imageOf, payloadOf}
 use Rattle.blocks.proofs.Lists.{laid-all}
 use Rattle.blocks.proofs.Images.{image-laid, payload-laid}
-use Rattle.demands.specs.declared.Refusal.the-variants.{WrongLength, BadCheck, ForeignImage}
+use Rattle.refusal.specs.declared.Refusal.the-variants.{WrongLength, BadCheck, ForeignImage}
 use Rattle.chain.specs.declared.Chain.{Chain}
 use Rattle.chain.specs.declared.Changed.{Changed}
 use Rattle.chain.specs.declared.Verdict.{Verdict}

@@ -1,4 +1,4 @@
--- Refusal 8, said twice: no valid chain has these words, and a word breaks one of document 01's rules.
+-- Refusal 8, said twice: no valid chain has these words, and a word breaks one of the specification's rules.
 use mathlib.Core.Path.{_≡_, sym, ap, _∙_}
 use mathlib.Core.Bool.{Bool, true, false}
 use mathlib.Core.List.{List}
@@ -10,8 +10,8 @@ use Rattle.blocks.specs.Lists.{Bytes}
 use Rattle.blocks.specs.Words.{blocksIn, checkedWords, firstBad}
 use Rattle.blocks.specs.Image.{imageOf, payloadOf}
 use Rattle.blocks.proofs.Images.{image-payload, image-of-payload, payload-length, payload-words}
-use Rattle.demands.specs.declared.Refusal.the-variants.{ForeignImage}
-use Rattle.demands.specs.Table.{numberOf}
+use Rattle.refusal.specs.declared.Refusal.the-variants.{ForeignImage}
+use Rattle.refusal.specs.Table.{numberOf}
 use Rattle.chain.specs.declared.Chain.{Chain}
 use Rattle.chain.specs.Valid.{Valid}
 use Rattle.codec.proofs.Again.{Iff}
@@ -44,7 +44,7 @@ module _ (b : List ℕ) (s : Bytes b) (e : length b ≡ imageBytes) (f : firstBa
       let q : image c ≡ b = i ∙ image-of-payload b blockCount e s f in
       ap refusesImage (sym q) ∙ image-accepted c (w .1)
 
-  -- they are accepted exactly where each word keeps document 01's rules
+  -- they are accepted exactly where each word keeps the specification's rules
   pub accepted-words : Iff (refusesImage b ≡ 0) (PayloadWords (payloadOf b))
   accepted-words =
       let a = payload.payload-words (payloadOf b) (payload-words b s) all-words in

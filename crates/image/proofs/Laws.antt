@@ -14,9 +14,9 @@ use Rattle.blocks.proofs.Lists.{same-refl, same-eq}
 use Rattle.blocks.proofs.Images as images
 use Rattle.blocks.proofs.Single.{inside, one-word-caught}
 use Rattle.codec.proofs.Accepted.{dec-enc, enc-inj}
-use Rattle.demands.specs.declared.Refusal.{Refusal}
-use Rattle.demands.specs.declared.Refusal.the-variants.{WrongLength, BadCheck, ForeignImage}
-use Rattle.demands.specs.Table.{numberOf, InTable, _means_, firstNumber}
+use Rattle.refusal.specs.declared.Refusal.{Refusal}
+use Rattle.refusal.specs.declared.Refusal.the-variants.{WrongLength, BadCheck, ForeignImage}
+use Rattle.refusal.specs.Table.{numberOf, InTable, _means_, firstNumber}
 use Rattle.demands.specs.Calls.{refusal, passed, done, Step, gets}
 use Rattle.chain.specs.declared.Chain.{Chain}
 use Rattle.chain.specs.declared.Changed.{Changed}
@@ -75,7 +75,7 @@ bits-inj s t v u e = enc-inj chain s t (valid-chain s v) (valid-chain t u) e
 
 -- ---- some bytes
 
--- document 01's number by the three tests: length, checks, words
+-- the specification's number by the three tests: length, checks, words
 abbrev pub ruling : Bool → Bool → Bool → ℕ
 ruling x y z = firstNumber (not x means WrongLength ∷ not y means BadCheck ∷ not z means ForeignImage ∷ [])
 

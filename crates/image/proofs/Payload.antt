@@ -1,4 +1,4 @@
--- A payload is a valid chain's exactly where document 01's rules hold of its words.
+-- A payload is a valid chain's exactly where the specification's rules hold of its words.
 use mathlib.Core.Path.{_≡_, refl, sym, ap, _∙_, subst}
 use mathlib.Core.Bool.{Bool, true, false, not, cond, _&&_, _||_, Bool·beq}
 use mathlib.Core.List.{List, [], _∷_}
@@ -13,7 +13,7 @@ use lib.Ieee.{Float, nan, inf, fin, binary64, up, down, top, lt, eq, fits, ofBit
 use lib.Ieee.Bits.{ofBits-fits}
 use lib.Ieee.Fits.{up-pos}
 use lib.Ieee.Scale.{finite}
-use Rattle.float.specs.Whole.{zero64}
+use Rattle.float.specs.Arithmetic.{zero64}
 use Rattle.blocks.specs.Lists.{Words}
 use Rattle.blocks.proofs.Lists.{below-nil, below-cons, below-replicate}
 use Rattle.codec.specs.Fields.{infinite, numOf}

@@ -5,7 +5,7 @@ use borrow.Author.Tests.{eq-eqb, eqb-true}
 use lib.Dec.{T, eqb}
 use lib.Ieee.{Float, binary64, toBits, ofBits, eq}
 use lib.Ieee.Bits.{ofBits-toBits}
-use Rattle.float.specs.Whole.{zero64}
+use Rattle.float.specs.Arithmetic.{zero64}
 use Rattle.float.specs.Valid.{Num}
 use Rattle.vad.specs.declared.VadSettings.{VadSettings}
 use Rattle.ratio.specs.declared.Duck.{Duck}

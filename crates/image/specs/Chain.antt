@@ -9,7 +9,7 @@ use lib.Ieee.{Float, binary64, toBits, ofBits, eq, neg, lt, fits}
 use Rattle.blocks.proofs.Lists.{below-nil, below-cons, below-replicate}
 use Rattle.codec.specs.Codec.{Codec}
 use Rattle.codec.specs.Forms.{f64, flag, one, fixed, pair, as-a, also}
-use Rattle.float.specs.Whole.{zero64}
+use Rattle.float.specs.Arithmetic.{zero64}
 use Rattle.vad.specs.declared.VadSettings.{VadSettings}
 use Rattle.ratio.specs.declared.Duck.{Duck}
 use Rattle.comis.specs.declared.loop_bank.Loops.{Loops}

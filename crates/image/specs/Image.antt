@@ -7,8 +7,8 @@ use lib.ListN.{length}
 use Rattle.blocks.specs.Lists.{same}
 use Rattle.blocks.specs.Words.{firstBad}
 use Rattle.blocks.specs.Image.{imageOf, payloadOf}
-use Rattle.demands.specs.declared.Refusal.the-variants.{WrongLength, BadCheck, ForeignImage}
-use Rattle.demands.specs.Table.{_means_, firstNumber}
+use Rattle.refusal.specs.declared.Refusal.the-variants.{WrongLength, BadCheck, ForeignImage}
+use Rattle.refusal.specs.Table.{_means_, firstNumber}
 use Rattle.chain.specs.declared.Chain.{Chain}
 use Rattle.chain.specs.declared.Changed.{Changed}
 use Rattle.chain.specs.declared.Verdict.{Verdict}
@@ -39,7 +39,7 @@ rightLength b = eqb (length b) imageBytes
 abbrev pub rightChecks : List ℕ → Bool
 rightChecks b = eqb (firstBad b) blockCount
 
--- an image's number in document 01's table; 0: it passes
+-- an image's number in the specification's table; 0: it passes
 unfoldable pub refusesImage : List ℕ → ℕ
 refusesImage b =
     firstNumber

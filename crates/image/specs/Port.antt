@@ -2,8 +2,8 @@
 use mathlib.Core.Bool.{cond}
 use mathlib.Core.List.{List}
 use Prim.Native.Nat.{ℕ}
-use Rattle.demands.specs.declared.Refusal.the-variants.{WrongLength}
-use Rattle.demands.specs.Table.{numberOf}
+use Rattle.refusal.specs.declared.Refusal.the-variants.{WrongLength}
+use Rattle.refusal.specs.Table.{numberOf}
 use Rattle.demands.specs.Calls.{event, save, restore, Reply, refusal, passed, done, Step, gets, Images, allCalls, Port}
 use Rattle.chain.specs.declared.Chain.{Chain}
 use Rattle.chain.specs.declared.Verdict.{Verdict}
@@ -25,11 +25,11 @@ module _ {Answer : Type 0} where
   abbrev pub onRestore : Chain → List ℕ → Step Chain Answer
   onRestore c b = gets (replyOf (restoreOf c b .verdict)) b (restoreOf c b .chain)
 
--- a save's number in document 01's table; 0: it passes
+-- a save's number in the specification's table; 0: it passes
 abbrev pub refusesSave : List ℕ → ℕ
 refusesSave b = cond (rightLength b) 0 (numberOf WrongLength)
 
--- document 01's rules of the images
+-- the specification's rules of the images
 abbrev pub images : Images rules
 images = record { size = imageBytes; image = image; refusesImage = refusesImage; bits = wordsOf }
 

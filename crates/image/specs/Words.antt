@@ -1,4 +1,4 @@
--- Document 01's rules for the 1,323 words of a payload, word by word and in its order. Definitions only.
+-- The specification's rules for the 1,323 words of a payload, word by word and in its order. Definitions only.
 use mathlib.Core.Path.{_≡_}
 use mathlib.Core.Bool.{false}
 use mathlib.Core.List.{List}

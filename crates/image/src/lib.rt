@@ -21,9 +21,9 @@ use chain::Changed;
 use chain::Settings;
 use chain::Verdict;
 use comis::loop_bank::Loops;
-use demands::Refusal;
 use float::Lufs;
 use ratio::Duck;
+use refusal::Refusal;
 use vad::VadSettings;
 
 const EDITION: u64 = 1;
@@ -149,7 +149,7 @@ fn signed(x: f64) -> bool
     ensures { λ r. ⌜ r ≡ signedOf x ⌝ }
 {
     if x == 0.0 {
-        return codec::bits64(x) != 0;
+        return float::to_bits(x) != 0;
     }
     false
 }

@@ -16,8 +16,9 @@ use Rattle.sequence.proofs.Newest.{newest-of-latest}
 use Rattle.level.specs.declared.Weighing.{Weighing}
 use Rattle.level.specs.declared.Reading.{Reading}
 use Rattle.level.specs.declared.Level.{Level}
-use Rattle.level.specs.Bs1770.{_⊕_, _⊘_, zero64, whole, filtered, weighted, energy, power, powers, meanPower, smoothed, momentary, shortTerm, fast}
-use Rattle.level.specs.Finite.{allFinite}
+use Rattle.level.specs.Bs1770.{filtered, weighted, energy, power, powers, meanPower, smoothed, momentary, shortTerm, fast}
+use Rattle.float.specs.Arithmetic.{_⊕_, _⊘_, zero64, whole}
+use Rattle.float.specs.AllFinite.{allFinite}
 use Rattle.level.specs.Weighing.{cleanOf, runOf}
 use Rattle.level.specs.Level.{zeros, lufsOf, freshOf, frameOf}
 use Rattle.level.specs.Deque.{Meter, newMeter, meterRun, dequeMean, joint, kept, framesWith, meterNext, meterReading, meterOf}

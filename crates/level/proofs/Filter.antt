@@ -11,7 +11,8 @@ use Rattle.biquad.specs.declared.Coefficients.{Coefficients}
 use Rattle.biquad.specs.Sections.{kShelf, kHighPass}
 use Rattle.biquad.specs.Tick.{atRest, tap, tickOf}
 use Rattle.level.specs.declared.Weighing.{Weighing}
-use Rattle.level.specs.Bs1770.{_⊕_, _⊗_, back, response, filtered, weighted, energy, smoothed}
+use Rattle.level.specs.Bs1770.{back, response, filtered, weighted, energy, smoothed}
+use Rattle.float.specs.Arithmetic.{_⊕_, _⊗_}
 use Rattle.level.specs.Weighing.{stepOf}
 
 -- ---- one section; lists run newest first

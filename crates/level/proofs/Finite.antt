@@ -11,7 +11,7 @@ use lib.Ieee.{Float, nan}
 use lib.Ieee.Fits.{and-i, and-l, and-r}
 use lib.Ieee.Scale.{finite}
 use Rattle.sequence.specs.History.{latest, held, placesAfter}
-use Rattle.level.specs.Finite.{allFinite}
+use Rattle.float.specs.AllFinite.{allFinite}
 
 -- each number of a list whose numbers are all finite
 pub all-at : (xs : List Float) (k : ℕ) → T (allFinite xs) → k < length xs → T (finite (getD xs k nan))

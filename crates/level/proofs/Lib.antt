@@ -1,4 +1,3 @@
-pub mod All
 pub mod Finite
 pub mod Readings
 pub mod Sum

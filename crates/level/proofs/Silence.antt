@@ -6,23 +6,11 @@ use mathlib.Core.List.{List, [], _∷_, foldl}
 use lib.ListN.{length, drop, getD, replicate, drop-of-length-le}
 use lib.Seq.{drop-cons}
 use lib.Ieee.{Float, nan}
+use Rattle.float.proofs.Sameness.{Same}
 use Rattle.biquad.specs.Sections.{kShelf, kHighPass}
 use Rattle.biquad.specs.Tick.{tickOf}
 use Rattle.level.specs.declared.Weighing.{Weighing}
 use Rattle.level.specs.Weighing.{weighed, stepOf, shelfOutput, heldStep, heldRun}
-
-abbrev pub Same : Float → List Float → Type 0
-Same x ys = ys ≡ replicate (length ys) x
-
--- the value at i is x
-pub same-turn : (x : Float) (xs : List Float) (i : ℕ) → i < length xs → getD xs i nan ≡ x → Same x (drop (i + 1) xs) → Same x (drop i xs)
-same-turn x xs i h e s = subst (Same x) (sym (drop-cons xs i nan h)) (both (subst (λ (n : ℕ). Same x (drop n xs)) (add-one i) s))
-  where
-    both : Same x (drop (suc i) xs) → Same x (getD xs i nan ∷ drop (suc i) xs)
-    both t = λ k. e k ∷ t k
-
-pub same-end : (x : Float) (xs : List Float) (i : ℕ) → length xs ≤ i → Same x (drop i xs)
-same-end x xs i h = subst (Same x) (sym (drop-of-length-le xs h)) refl
 
 -- a sample x that leaves the shelf as it is
 abbrev Stays : Weighing → Float → Type 0

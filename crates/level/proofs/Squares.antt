@@ -6,18 +6,19 @@ use mathlib.Core.List.{List, [], _∷_, foldl}
 use lib.Dec.{T}
 use lib.ListN.{length, take, drop, length-drop}
 use lib.Ieee.{Float, binary64, fits, sub, div, ofBits, ofInt}
-use Rattle.float.specs.Valid.{plus, Sum}
+use Rattle.float.specs.Valid.{plus, NoMinus}
 use Rattle.float.proofs.Plus.{add-sum, mul-plus, square-plus, div-sum}
 use Rattle.float.proofs.Exact.{one-times, nil-and, and-nil}
 use Rattle.level.specs.declared.Weighing.{Weighing}
-use Rattle.level.specs.Bs1770.{_⊕_, _⊖_, _⊗_, _⊘_, zero64, one64, whole, energy, power, powers, fastCoeff, smoothed}
+use Rattle.level.specs.Bs1770.{energy, power, powers, fastCoeff, smoothed}
+use Rattle.float.specs.Arithmetic.{_⊕_, _⊖_, _⊗_, _⊘_, zero64, one64, whole}
 use Rattle.level.specs.Level.{noChannel, joinedOf}
 
-zero-sum : Sum binary64 zero64
+zero-sum : NoMinus binary64 zero64
 unfolding ofBits fits
 zero-sum = (tt, tt)
 
-energy-sum : (ys : List Float) → Sum binary64 (energy ys)
+energy-sum : (ys : List Float) → NoMinus binary64 (energy ys)
 unfolding energy
 energy-sum [] = zero-sum
 energy-sum (y ∷ ys) = add-sum binary64 (energy ys) (y ⊗ y) (energy-sum ys .0) (square-plus binary64 y)
@@ -26,14 +27,14 @@ frame-plus : T (plus (whole 480))
 unfolding ofInt
 frame-plus = tt
 
-mean-sum : (ys : List Float) → Sum binary64 (energy ys ⊘ whole 480)
+mean-sum : (ys : List Float) → NoMinus binary64 (energy ys ⊘ whole 480)
 mean-sum ys = div-sum binary64 (energy ys) (whole 480) (energy-sum ys .0) frame-plus
 
 coeff-plus : T (plus fastCoeff) × T (plus (one64 ⊖ fastCoeff))
 unfolding ofBits sub
 coeff-plus = (tt, tt)
 
-smoothed-sum : (ys : List Float) → Sum binary64 (smoothed ys)
+smoothed-sum : (ys : List Float) → NoMinus binary64 (smoothed ys)
 unfolding smoothed
 smoothed-sum [] = zero-sum
 smoothed-sum (y ∷ ys) =
@@ -59,7 +60,7 @@ joined-fast w n ys e =
 
 -- ---- frames before the first are silent, and silence adds nothing
 
-silence : (n : ℕ) (s : Float) → Sum binary64 s → foldl _⊕_ s (powers n []) ≡ s
+silence : (n : ℕ) (s : Float) → NoMinus binary64 s → foldl _⊕_ s (powers n []) ≡ s
 unfolding powers energy ofBits ofInt div
 silence zero s h = refl
 silence (suc n) s h = ap (λ (z : Float). foldl _⊕_ z (powers n [])) (and-nil binary64 s h) ∙ silence n s h
@@ -68,7 +69,7 @@ empty : (ys : List Float) → length ys ≡ 0 → ys ≡ []
 empty [] h = refl
 empty (y ∷ ys) h = absurd (omega (arith, h))
 
-sums : (n k : ℕ) (ys : List Float) (s : Float) → Sum binary64 s → length ys ≡ k * 480 → foldl _⊕_ s (take n (powers k ys)) ≡ foldl _⊕_ s (powers n ys)
+sums : (n k : ℕ) (ys : List Float) (s : Float) → NoMinus binary64 s → length ys ≡ k * 480 → foldl _⊕_ s (take n (powers k ys)) ≡ foldl _⊕_ s (powers n ys)
 unfolding powers
 sums zero k ys s h l = refl
 sums (suc n) zero ys s h l = sym (ap (λ (z : List Float). foldl _⊕_ s (powers (suc n) z)) (empty ys l) ∙ silence (suc n) s h)

@@ -8,7 +8,7 @@ use lib.Ieee.{Float, nan}
 use Rattle.sequence.specs.History.{newest, held}
 use Rattle.sequence.proofs.Newest.{newest-turn, newest-none, newest-enough, newest-add}
 use Rattle.sequence.proofs.Places.{held-least}
-use Rattle.level.specs.Bs1770.{_⊕_, zero64}
+use Rattle.float.specs.Arithmetic.{_⊕_, zero64}
 use Rattle.level.specs.Level.{sumOf}
 
 module _ (sum : Float) (v : List Float) where

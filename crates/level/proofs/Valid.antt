@@ -12,8 +12,8 @@ use Rattle.float.specs.Valid.{Num}
 use Rattle.sequence.proofs.Counted.{counted-none, counted-more}
 use Rattle.level.specs.declared.Weighing.{Weighing}
 use Rattle.level.specs.declared.Level.{Level}
-use Rattle.level.specs.Bs1770.{zero64}
-use Rattle.level.specs.Finite.{allFinite}
+use Rattle.float.specs.Arithmetic.{zero64}
+use Rattle.float.specs.AllFinite.{allFinite}
 use Rattle.level.specs.Weighing.{cleanOf, stepOf, runOf}
 use Rattle.level.specs.Level.{joinedOf, zeros, pushOf, readOf, freshOf, startOf, storedOf, finishOf, frameOf}
 use Rattle.level.specs.Deque.{joint}

@@ -4,37 +4,14 @@
 use Prim.Native.Nat.{ℕ, zero, suc}
 use mathlib.Core.Bool.{cond}
 use mathlib.Core.List.{List, [], _∷_, foldl, reverse}
-use lib.IntN.{pos}
 use lib.ListN.{getD, take, drop}
-use lib.Ieee.{Float, binary64, add, sub, mul, div, lt, ofBits, ofInt}
+use lib.Ieee.{Float, binary64, lt, ofBits}
 use Rattle.biquad.specs.declared.Coefficients.{Coefficients}
 use Rattle.biquad.specs.Sections.{kShelf, kHighPass}
+use Rattle.float.specs.Arithmetic.{_⊕_, _⊖_, _⊗_, _⊘_, zero64, one64, ten64, whole}
 use Rattle.float.specs.Choice.{maxOf}
+use Rattle.float.specs.Silence.{silenceLufs}
 use Rattle.logarithm.specs.Logarithm.{log10Of}
-
--- the rounded operations, 0, 1, and a whole number as an f64
-infixl 6 _⊕_ _⊖_
-infixl 7 _⊗_ _⊘_
-abbrev pub _⊕_ : Float → Float → Float
-x ⊕ y = add binary64 x y
-
-abbrev pub _⊖_ : Float → Float → Float
-x ⊖ y = sub binary64 x y
-
-abbrev pub _⊗_ : Float → Float → Float
-x ⊗ y = mul binary64 x y
-
-abbrev pub _⊘_ : Float → Float → Float
-x ⊘ y = div binary64 x y
-
-abbrev pub zero64 : Float
-zero64 = ofBits binary64 0
-
-abbrev pub one64 : Float
-one64 = ofBits binary64 0x3ff0000000000000
-
-abbrev pub whole : ℕ → Float
-whole n = ofInt binary64 (pos n)
 
 -- samples in a frame of 10 ms; frames in 400 ms and in 3 s
 abbrev pub frameLength : ℕ
@@ -86,18 +63,12 @@ meanPower n ys = foldl _⊕_ zero64 (powers n ys) ⊘ whole n
 
 -- ---- loudness, LUFS: -0.691 + 10 log10 of the mean square; not below -100, which is also that of silence
 
--- -0.691 and -100 LUFS
+-- -0.691
 abbrev pub offsetLufs : Float
 offsetLufs = ofBits binary64 0xbfe61cac083126e9
 
-abbrev pub floorLufs : Float
-floorLufs = ofBits binary64 0xc059000000000000
-
-abbrev pub ten : Float
-ten = ofBits binary64 0x4024000000000000
-
 unfoldable pub loudness : Float → Float
-loudness p = cond (lt zero64 p) (maxOf (offsetLufs ⊕ ten ⊗ log10Of p) floorLufs) floorLufs
+loudness p = cond (lt zero64 p) (maxOf (offsetLufs ⊕ ten64 ⊗ log10Of p) silenceLufs) silenceLufs
 
 -- over the last 400 ms, and over the last 3 s
 unfoldable pub momentary : List Float → Float

@@ -10,7 +10,8 @@ use Rattle.level.specs.declared.Weighing.{Weighing}
 use Rattle.level.specs.declared.Joint.{Joint}
 use Rattle.level.specs.declared.Reading.{Reading}
 use Rattle.level.specs.declared.Level.{Level}
-use Rattle.level.specs.Bs1770.{_⊕_, _⊘_, zero64, one64, whole, momentaryFrames, shortTermFrames}
+use Rattle.level.specs.Bs1770.{momentaryFrames, shortTermFrames}
+use Rattle.float.specs.Arithmetic.{_⊕_, _⊘_, zero64, one64, whole}
 use Rattle.level.specs.Weighing.{runOf}
 use Rattle.level.specs.Level.{noChannel, joinedOf, lufsOf}
 

@@ -7,7 +7,7 @@ use lib.Ieee.{Float}
 use Rattle.level.specs.declared.Reading.{Reading}
 use Rattle.level.specs.declared.Level.{Level}
 use Rattle.level.specs.Bs1770.{frameLength, weighted, power, momentary, shortTerm, fast}
-use Rattle.level.specs.Finite.{allFinite}
+use Rattle.float.specs.AllFinite.{allFinite}
 use Rattle.level.specs.Weighing.{cleanOf}
 use Rattle.level.specs.Level.{freshOf, frameOf}
 
@@ -26,9 +26,9 @@ unfoldable pub joined : List (List Float) → List Float
 joined [] = []
 joined (f ∷ fs) = f ++ joined fs
 
-abbrev pub Sound : List (List Float) → Type 0
-Sound [] = Unit {0}
-Sound (f ∷ fs) = T (allFinite f) × Sound fs
+abbrev pub FiniteFrames : List (List Float) → Type 0
+FiniteFrames [] = Unit {0}
+FiniteFrames (f ∷ fs) = T (allFinite f) × FiniteFrames fs
 
 -- the level after the frames
 unfoldable pub levelAfter : List (List Float) → Level
@@ -49,4 +49,4 @@ ReadsBs1770 = (fs : List (List Float)) (f : List Float) → Whole fs → length 
 
 -- and where every sample is finite, what is heard are the samples themselves
 abbrev pub HearsSamples : Type 0
-HearsSamples = (fs : List (List Float)) → Sound fs → heard fs ≡ joined fs
+HearsSamples = (fs : List (List Float)) → FiniteFrames fs → heard fs ≡ joined fs

@@ -16,8 +16,9 @@ use Rattle.level.specs.declared.Reading.{Reading}
 use Rattle.level.specs.declared.Read.{Read}
 use Rattle.level.specs.declared.Level.{Level}
 use Rattle.level.specs.declared.Framed.{Framed}
-use Rattle.level.specs.Bs1770.{_⊕_, _⊗_, _⊘_, zero64, one64, whole, momentaryFrames, shortTermFrames, loudness}
-use Rattle.level.specs.Finite.{allFinite}
+use Rattle.level.specs.Bs1770.{momentaryFrames, shortTermFrames, loudness}
+use Rattle.float.specs.Arithmetic.{_⊕_, _⊗_, _⊘_, zero64, one64, whole}
+use Rattle.float.specs.AllFinite.{allFinite}
 use Rattle.level.specs.Weighing.{runOf}
 
 -- ---- the sums over the channels

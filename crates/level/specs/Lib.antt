@@ -1,8 +1,6 @@
 pub mod Bs1770
-pub mod All
-pub mod Finite
 pub mod Weighing
-pub mod Same
+pub mod Rest
 pub mod Level
 pub mod Deque
 pub mod Heard

@@ -4,7 +4,8 @@ use Rattle.biquad.specs.declared.State.{State}
 use Rattle.float.specs.Valid.{Num}
 use Rattle.sequence.specs.Counted.{Counted}
 use Rattle.level.specs.declared.Level.{Level}
-use Rattle.level.specs.Bs1770.{zero64, shortTermFrames}
+use Rattle.level.specs.Bs1770.{shortTermFrames}
+use Rattle.float.specs.Arithmetic.{zero64}
 
 pub record Settled (s : State) : Type 0 where
   pub z1 : Num binary64 (s .z1)

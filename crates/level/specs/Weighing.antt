@@ -7,7 +7,8 @@ use Rattle.biquad.specs.declared.Ticked.{Ticked}
 use Rattle.biquad.specs.Sections.{kShelf, kHighPass}
 use Rattle.biquad.specs.Tick.{tickOf}
 use Rattle.level.specs.declared.Weighing.{Weighing}
-use Rattle.level.specs.Bs1770.{_⊕_, _⊖_, _⊗_, zero64, one64, fastCoeff}
+use Rattle.level.specs.Bs1770.{fastCoeff}
+use Rattle.float.specs.Arithmetic.{_⊕_, _⊖_, _⊗_, zero64, one64}
 
 -- a sample as it is heard: 0 in place of one that isn't finite
 abbrev pub cleanOf : Float → Float

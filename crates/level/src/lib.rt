@@ -5,8 +5,9 @@ ghost use mathlib.Core.List.{foldl};
 ghost use lib.Dec.{T};
 ghost use lib.ListN.{length, replicate};
 ghost use Rattle.biquad.specs.Tick.{tickOf};
-ghost use Rattle.level.specs.Finite.{allFinite};
-ghost use Rattle.level.specs.Same.{sameOf, allSame, sameState, holdsOf, restsOf};
+ghost use Rattle.float.specs.AllFinite.{allFinite};
+ghost use Rattle.level.specs.Rest.{sameState, holdsOf, restsOf};
+ghost use Rattle.float.specs.Same.{sameOf, allSame};
 ghost use Rattle.level.specs.Weighing.{cleanOf, stepOf, shelfOutput, heldStep, heldRun, runOf};
 ghost use Rattle.level.specs.Level.{
   joinedOf,
@@ -28,6 +29,7 @@ use biquad::K_HIGH_PASS;
 use biquad::K_SHELF;
 use biquad::State;
 use float::Lufs;
+use float::SILENCE_LUFS;
 
 const MOMENTARY: usize = 40; // frames
 
@@ -38,8 +40,6 @@ const FAST_COEFF: f64 = 0.9995833639986813; // exp(-1 / 2400): 50 ms
 const WEIGHT: f64 = 1.0; // of the one channel
 
 const OFFSET: f64 = -0.691; // LUFS
-
-const SILENCE_LUFS: f64 = -100.0; // LUFS
 
 // One channel, from sample to sample: its filters, the fast mean square, and the energy of the frame so far.
 pub struct Weighing {
@@ -97,54 +97,11 @@ pub struct Framed {
     pub finite: bool,
 }
 
-// Whether every number of v is finite.
-pub fn all_finite(v: &[f64]) -> bool
-    ensures { λ r. ⌜ r ≡ allFinite (now (v .entry)) ⌝ }
-{
-    let mut i = 0;
-    while i < v.len() {
-        if float::finite(v[i]) {
-            i += 1;
-        } else {
-            return false;
-        }
-    }
-    true
-}
-
-// Whether a and b have the same bits and are no NaN. Then they are the same.
-pub fn same(a: f64, b: f64) -> bool
-    ensures { λ r. ⌜ (r ≡ sameOf a b) × (T r → a ≡ b) ⌝ }
-{
-    if a != a {
-        return false;
-    }
-    if b != b {
-        return false;
-    }
-    f64::to_bits(a) == f64::to_bits(b)
-}
-
-// Whether every value is the same as x.
-pub fn all_same(x: f64, xs: &[f64]) -> bool
-    ensures { λ r. ⌜ (r ≡ allSame x (now (xs .entry))) × (T r → now (xs .entry) ≡ replicate (length (now (xs .entry))) x) ⌝ }
-{
-    let mut i = 0;
-    while i < xs.len() {
-        if same(xs[i], x) {
-            i += 1;
-        } else {
-            return false;
-        }
-    }
-    true
-}
-
 // Whether two sections are in the same state.
 pub fn same_state(s: State, t: State) -> bool
     ensures { λ r. ⌜ (r ≡ sameState s t) × (T r → s ≡ t) ⌝ }
 {
-    same(s.z1, t.z1) & same(s.z2, t.z2)
+    float::same(s.z1, t.z1) & float::same(s.z2, t.z2)
 }
 
 // Whether a sample x leaves a section's state as it is. In silence rounding holds its numbers at last.
@@ -218,7 +175,7 @@ impl Weighing {
             × (T r → heldRun (shelfOutput self x) self (now (xs .entry)) ≡ foldl stepOf self (now (xs .entry))) ⌝ }
     {
         let shelf = self.shelf;
-        if all_same(x, xs) {
+        if float::all_same(x, xs) {
             return holds(shelf, K_SHELF, x);
         }
         false
@@ -268,7 +225,7 @@ impl Joint {
             short_term.0,
             fast.0,
         ];
-        let finite = all_finite(&numbers);
+        let finite = float::all_finite(&numbers);
         Read {
             powers: next,
             reading: Reading {
@@ -417,6 +374,6 @@ pub fn finish(w: Weighing, powers: Powers, n: usize) -> Framed
             powers: next,
         },
         reading,
-        finite: all_finite(&stored) & read.finite,
+        finite: float::all_finite(&stored) & read.finite,
     }
 }

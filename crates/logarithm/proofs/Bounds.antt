@@ -1,4 +1,4 @@
--- The bounds of the logarithm: 2 ^ N ≤ n ^ (2 ^ k) < 2 ^ (N + 2) for N = wholeLogOf k n. Assumes nothing.
+-- The bounds of the logarithm: 2 ^ N ≤ n ^ (2 ^ k) < 2 ^ (N + 2) for N = wholeLogOf k n.
 -- Each power of 2 ^ 30 stands behind a variable exponent, or a variable base, so that antt computes none of them.
 use mathlib.Core.Path.{_≡_, refl, sym, ap, ap₂, _∙_, subst}
 use Prim.Native.Nat.{ℕ, zero, suc, _+_, _-_, _*_, _/_, _^_, _≤_, _<_}

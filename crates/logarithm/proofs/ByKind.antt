@@ -1,4 +1,4 @@
--- The logarithm by what kind of f64 a value is: a law for each arm of `log2`. Assumes nothing.
+-- The logarithm by what kind of f64 a value is: a law for each arm of `log2`.
 use mathlib.Core.Path.{_≡_, refl, sym, ap, _∙_, subst}
 use mathlib.Core.Bool.{Bool, true, false, cond}
 use Prim.Native.Nat.{ℕ, zero, suc, _*_, _^_, _<_}

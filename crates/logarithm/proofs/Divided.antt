@@ -1,4 +1,4 @@
--- z / 2 ^ k as an f64: how `quotient` comes to it, and that nothing is lost. Assumes nothing.
+-- z / 2 ^ k as an f64: how `quotient` comes to it, and that nothing is lost.
 use mathlib.Core.Path.{_≡_, refl, sym, ap, _∙_}
 use mathlib.Core.Bool.{Bool, true, false, not, cond}
 use Prim.Native.Nat.{ℕ, suc, _+_, _-_, _*_, _^_, _≤_, _<_}

@@ -1,4 +1,4 @@
--- The examples of document 01 for the logarithm, by computation. Assumes nothing.
+-- The examples of the specification for the logarithm, by computation.
 use mathlib.Core.Path.{refl}
 use lib.Ieee.{size, round, ofInt, ofBits}
 use Rattle.float.specs.Units.{unitsOf}

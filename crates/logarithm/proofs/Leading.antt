@@ -1,4 +1,4 @@
--- The 31 leading digits of a * 2 ^ x and their place, from the leading zeros of a in a word. Assumes nothing.
+-- The 31 leading digits of a * 2 ^ x and their place, from the leading zeros of a in a word.
 use mathlib.Core.Path.{_≡_, sym, ap, ap₂, _∙_}
 use Prim.Native.Nat.{ℕ, suc, _+_, _-_, _*_, _/_, _%_, _^_, _≤_, _<_}
 use native.Mathlib.Nat.{le-trans, le-of-eq, lt-of-lt-of-le, mul-assoc, mul-comm, mod-eq-of-lt, mul-le-mul-right, mul-lt-mul-of-pos-right}

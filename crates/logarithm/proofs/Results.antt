@@ -1,4 +1,4 @@
--- What holds of the logarithm of every finite f64 above zero: 2 ^ N ≤ x ^ (2 ^ k) < 2 ^ (N + 2), and what is returned is N / 2 ^ k. Assumes nothing.
+-- What holds of the logarithm of every finite f64 above zero: 2 ^ N ≤ x ^ (2 ^ k) < 2 ^ (N + 2), and what is returned is N / 2 ^ k.
 use mathlib.Core.Path.{_≡_, sym, ap, _∙_, subst}
 use mathlib.Core.Bool.{Bool, true, false, cond, true≢false}
 use Prim.Native.Nat.{ℕ, zero, suc, _+_, _-_, _*_, _^_, _≤_, _<_}
@@ -15,7 +15,7 @@ use lib.Ieee.Fits.{down-pos, nan-fits, inf-fits, cond-fits, round-fits, mul-fits
 use lib.Ieee.Positive.{num, den, den-pos}
 use lib.Ieee.Scale.{finite}
 use Rattle.float.specs.Units.{unitsOf}
-use Rattle.float.specs.Whole.{zero64}
+use Rattle.float.specs.Arithmetic.{zero64}
 use Rattle.float.proofs.Powers.{value-power, two-power}
 use Rattle.float.proofs.Units.{units-value, units-pos, units-lt}
 use Rattle.logarithm.specs.Logarithm.{steps, cutOf, wholeLogOf, unitsLogOf, logOf, negative, quotientOf, log2At, log2To, log2Of, log10Two, log10Of, Within}

@@ -1,4 +1,4 @@
--- A fraction below 2 ^ emax is rounded to a finite number, and so a product of small factors and a sum of small terms are finite. Assumes nothing.
+-- A fraction below 2 ^ emax is rounded to a finite number, and so a product of small factors and a sum of small terms are finite.
 use mathlib.Core.Path.{sym, ap, _∙_, subst}
 use mathlib.Core.Bool.{Bool, true, false, cond, _&&_, Bool·beq}
 use Prim.Native.Nat.{ℕ, suc, _+_, _-_, _*_, _/_, _%_, _^_, _≤_, _<_, compare}

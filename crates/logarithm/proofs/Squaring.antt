@@ -1,4 +1,4 @@
--- One squaring: m stays between 2 ^ 30 and 2 ^ 31, and the loop of `fraction` takes one bit off the rest. Assumes nothing.
+-- One squaring: m stays between 2 ^ 30 and 2 ^ 31, and the loop of `fraction` takes one bit off the rest.
 use mathlib.Core.Path.{_≡_, ap, _∙_, subst}
 use mathlib.Core.Bool.{Bool, true, false, not, cond}
 use Prim.Native.Nat.{ℕ, zero, suc, _+_, _-_, _*_, _/_, _^_, _≤_, _<_}

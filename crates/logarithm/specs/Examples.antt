@@ -1,4 +1,4 @@
--- The examples of document 01 for the logarithm. Definitions only.
+-- The examples of the specification for the logarithm. Definitions only.
 use mathlib.Core.Path.{_≡_}
 use lib.IntN.{pos, negsuc}
 use lib.Ieee.{binary64, ofInt, ofBits}

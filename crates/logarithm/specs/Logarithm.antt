@@ -1,9 +1,10 @@
--- The logarithm of an f64 to base 2 and to base 10, by the steps of document 01, "Stand-ins". Definitions only.
+-- The logarithm of an f64 to base 2 and to base 10, by the steps of the specification, "Stand-ins". Definitions only.
 use Prim.Native.Nat.{ℕ, zero, suc, _+_, _-_, _*_, _/_, _^_, _≤_, _<_}
 use mathlib.Core.Bool.{Bool, true, false, cond}
 use lib.Dec.{leb, eqb}
 use lib.IntN.{ℤ, pos, negsuc, natAbs}
-use lib.Ieee.{Float, nan, inf, fin, binary64, up, down, minus, size, round, mul, ofBits}
+use lib.Ieee.{Float, nan, inf, fin, binary64, up, down, minus, size, round, ofBits}
+use Rattle.float.specs.Arithmetic.{_⊗_}
 use Rattle.float.specs.Units.{unitsOf}
 
 -- how many times m is squared. Everything below is for any number k of times.
@@ -71,7 +72,7 @@ abbrev pub log10Two : Float
 log10Two = ofBits binary64 0x3fd34413509f79ff
 
 unfoldable pub log10Of : Float → Float
-log10Of x = mul binary64 (log2Of x) log10Two
+log10Of x = log2Of x ⊗ log10Two
 
 -- ---- what is proved of N, for every finite f64 above zero: `log2-within` of proofs/Results.antt
 

@@ -1,4 +1,4 @@
--- `round binary32` of sig * 2 ^ exp units of 2 ^ -1074, and its bits. Assumes nothing.
+-- `round binary32` of sig * 2 ^ exp units of 2 ^ -1074, and its bits.
 use mathlib.Core.Path.{_≡_, refl, sym, ap, _∙_}
 use mathlib.Core.Bool.{Bool, cond}
 use Prim.Native.Nat.{ℕ, suc, _+_, _-_, _*_, _/_, _%_, _^_, _≤_, _<_, min, compare}

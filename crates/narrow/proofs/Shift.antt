@@ -1,4 +1,4 @@
--- Rounding to the nearest whole number, at a tie to the even one, by one sum and one quotient. Assumes nothing.
+-- Rounding to the nearest whole number, at a tie to the even one, by one sum and one quotient.
 use mathlib.Core.Path.{_≡_, sym, ap, _∙_, subst}
 use mathlib.Core.Bool.{not}
 use Prim.Native.Nat.{ℕ, zero, suc, _+_, _-_, _*_, _/_, _%_, _^_, _≤_, _<_, compare, Ordering, Ordering·lt, Ordering·eq, Ordering·gt}

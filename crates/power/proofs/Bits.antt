@@ -1,4 +1,4 @@
--- The result's bits: m * 2 ^ (n - 30) has the digits m * 2 ^ 22 at the place n + 22 of the smallest f64, n counted from -1000. Assumes nothing.
+-- The result's bits: m * 2 ^ (n - 30) has the digits m * 2 ^ 22 at the place n + 22 of the smallest f64, n counted from -1000.
 use mathlib.Core.Path.{_≡_, refl, sym, ap, _∙_, subst}
 use mathlib.Core.Bool.{Bool, false, not}
 use Prim.Native.Nat.{ℕ, suc, _+_, _*_, _/_, _%_, _^_, _≤_, _<_, min}

@@ -1,4 +1,4 @@
--- 2 ^ (K - 2) < (2 ^ y) ^ (2 ^ 24) ≤ 2 ^ K for a y from -1,000 to 1,000 and K = floor (y * 2 ^ 24). Assumes nothing.
+-- 2 ^ (K - 2) < (2 ^ y) ^ (2 ^ 24) ≤ 2 ^ K for a y from -1,000 to 1,000 and K = floor (y * 2 ^ 24).
 use mathlib.Core.Path.{_≡_, refl, sym, ap, ap₂, _∙_, subst}
 use mathlib.Core.Bool.{Bool, true, false, _&&_, _||_, cond}
 use Prim.Native.Nat.{ℕ, zero, suc, _+_, _-_, _*_, _/_, _%_, _^_, _≤_, _<_}
@@ -176,7 +176,7 @@ module _ (m : ℕ) (e : ℤ) (h : m * up e ≤ 1000 * down e) where
   at-size : (s : Bool) → PowerBounds (exp2Of (fin s m e)) (floorOf (fin s m e))
   at-size s = subst (λ (r : Float). PowerBounds r (floorOf (fin s m e))) (ap (λ (K : ℤ). powAt (above K)) (own-floor s) ∙ exp2-from (fin s m e) (unfold isNan in tt) (not-below s)) (own-bounds s)
 
--- the law of document 01
+-- the law of the specification
 pub exp2-bounds : (y : Float) → T (le (neg thousand) y) → T (le y thousand) → PowerBounds (exp2Of y) (floorOf y)
 unfolding le lt eq neg ofBits
 exp2-bounds nan a b = absurd b

@@ -1,4 +1,4 @@
--- The cases of 2 ^ y: below -1,000, no number, and from -1,000 on, where y counts as 1,000 at most. Assumes nothing.
+-- The cases of 2 ^ y: below -1,000, no number, and from -1,000 on, where y counts as 1,000 at most.
 use mathlib.Core.Path.{_≡_, refl, sym, ap, _∙_, subst}
 use mathlib.Core.Bool.{Bool, true, false, not, cond, true≢false}
 use Prim.Native.Nat.{ℕ, _*_, _/_, _^_, _≤_, _<_, zero-le}
@@ -13,7 +13,7 @@ use lib.Ieee.Scale.{finite}
 use Rattle.float.specs.Units.{unitsOf}
 use Rattle.float.specs.Kind.{kindOf}
 use Rattle.float.specs.Choice.{minOf}
-use Rattle.float.specs.Whole.{zero64}
+use Rattle.float.specs.Arithmetic.{zero64}
 use Rattle.float.specs.declared.Parts.{Parts}
 use Rattle.float.specs.declared.Kind.the-variants.{NotANumber, Infinite, Finite}
 use Rattle.float.proofs.Classified.{is-nan, is-infinite, is-finite}

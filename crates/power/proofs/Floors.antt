@@ -1,4 +1,4 @@
--- floor (y * 2 ^ 24) of a y of a * 2 ^ e units of 2 ^ -1074 by a shift of a, and how large it is. Assumes nothing.
+-- floor (y * 2 ^ 24) of a y of a * 2 ^ e units of 2 ^ -1074 by a shift of a, and how large it is.
 use mathlib.Core.Path.{_≡_, refl, sym, ap, _∙_}
 use mathlib.Core.Bool.{Bool, true, false}
 use Prim.Native.Nat.{ℕ, zero, suc, _+_, _-_, _*_, _/_, _^_, _≤_, _<_}

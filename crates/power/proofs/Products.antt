@@ -1,4 +1,4 @@
--- The q-th power of a product of roots, from both sides: a root loses at most two parts in 2 ^ 30, a product one, and all of them together less than 4. Assumes nothing.
+-- The q-th power of a product of roots, from both sides: a root loses at most two parts in 2 ^ 30, a product one, and all of them together less than 4.
 use mathlib.Core.Path.{_≡_, refl, sym, ap, ap₂, _∙_, subst}
 use mathlib.Core.Bool.{Bool, true, false, not, cond}
 use mathlib.Core.List.{List, [], _∷_}

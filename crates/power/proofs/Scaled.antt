@@ -1,4 +1,4 @@
--- The laws of 2 ^ y for e ^ x, 10 ^ u and 60 ^ u: a product with a constant above zero is a number where the other factor is, and at most 0 where that is. Assumes nothing.
+-- The laws of 2 ^ y for e ^ x, 10 ^ u and 60 ^ u: a product with a constant above zero is a number where the other factor is, and at most 0 where that is.
 use mathlib.Core.Path.{_≡_, refl, sym, ap, _∙_, subst}
 use mathlib.Core.Bool.{Bool, true, false, not, _&&_, _||_, cond, true≢false}
 use Prim.Native.Nat.{ℕ, zero, suc, _+_, _*_, _^_, _<_}
@@ -13,10 +13,10 @@ use lib.Ieee.Fits.{down-pos, round-is}
 use lib.Ieee.Positive.{positive}
 use lib.Ieee.Scale.{finite, round-same}
 use Rattle.float.specs.Valid.{plus}
-use Rattle.float.specs.Whole.{zero64}
+use Rattle.float.specs.Arithmetic.{zero64, one64}
 use Rattle.float.proofs.Signs.{Signed, round-signed}
 use Rattle.power.specs.Power.{exp2Of, log2E, log2Ten, log2Sixty, expOf, exp10Of, exp60Of}
-use Rattle.power.specs.Bounds.{one64, PowerLaws}
+use Rattle.power.specs.Bounds.{PowerLaws}
 use Rattle.power.proofs.Values.{no-size, exp2-laws}
 
 -- ---- rounding gives no NaN

@@ -1,4 +1,4 @@
--- The table of roots keeps its rule: r0 = 2 ^ 31, and each of the 24 entries is floor (root of the one before * 2 ^ 30). Assumes nothing.
+-- The table of roots keeps its rule: r0 = 2 ^ 31, and each of the 24 entries is floor (root of the one before * 2 ^ 30).
 use mathlib.Core.Path.{_≡_, refl, sym, subst}
 use mathlib.Core.Bool.{Bool, true, _&&_}
 use mathlib.Core.List.{List, [], _∷_}

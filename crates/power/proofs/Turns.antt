@@ -1,4 +1,4 @@
--- One turn of the loop of `fraction`: what is left to multiply comes to the same. Assumes nothing.
+-- One turn of the loop of `fraction`: what is left to multiply comes to the same.
 use mathlib.Core.Path.{_≡_, refl, sym, ap, _∙_, subst}
 use mathlib.Core.Bool.{Bool, true, false, cond}
 use mathlib.Core.List.{List, [], _∷_}

@@ -1,4 +1,4 @@
--- What other modules need of 2 ^ y: binary64 holds it, it is finite but for a NaN, has no minus sign, and is at most 1 for a y of at most 0. Assumes nothing.
+-- What other modules need of 2 ^ y: binary64 holds it, it is finite but for a NaN, has no minus sign, and is at most 1 for a y of at most 0.
 use mathlib.Core.Path.{_≡_, refl, sym, ap, subst}
 use mathlib.Core.Bool.{Bool, true, false, not, _||_, cond}
 use Prim.Native.Nat.{ℕ, zero, suc, _+_, _-_, _*_, _/_, _^_, _≤_, _<_}
@@ -18,12 +18,12 @@ use lib.Ieee.Scale.{finite}
 use Rattle.float.specs.Valid.{plus}
 use Rattle.float.specs.Units.{unitsOf}
 use Rattle.float.specs.Choice.{minOf}
-use Rattle.float.specs.Whole.{zero64}
+use Rattle.float.specs.Arithmetic.{zero64, one64}
 use Rattle.float.proofs.Powers.{pow-mul}
 use Rattle.float.proofs.Plus.{round-plus}
 use Rattle.float.proofs.Units.{units-zero}
 use Rattle.power.specs.Power.{floorUnits, floorOf, above, powUnits, powAt, thousand, exp2Of}
-use Rattle.power.specs.Bounds.{one64, PowerLaws}
+use Rattle.power.specs.Bounds.{PowerLaws}
 use Rattle.power.proofs.Floors.{above-minus, above-le}
 use Rattle.power.proofs.Cases.{exp2-nan, exp2-below, exp2-from, min-units}
 use Rattle.power.proofs.Bounds.{units-bounds, units-pos, power-exact, order}

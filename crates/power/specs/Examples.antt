@@ -1,4 +1,4 @@
--- The examples of document 01 for the power. Definitions only.
+-- The examples of the specification for the power. Definitions only.
 use mathlib.Core.Path.{_≡_}
 use mathlib.Core.Bool.{false}
 use lib.IntN.{pos, negsuc}

@@ -1,14 +1,14 @@
--- The power 2 ^ y by the steps of document 01, "Stand-ins", and exp, 10 ^ u and 60 ^ u by it. Definitions only.
+-- The power 2 ^ y by the steps of the specification, "Stand-ins", and exp, 10 ^ u and 60 ^ u by it. Definitions only.
 use Prim.Native.Nat.{ℕ, suc, _+_, _-_, _*_, _/_, _%_, _^_}
 use mathlib.Core.Bool.{Bool, true, false, cond}
 use mathlib.Core.List.{List, [], _∷_}
 use lib.Dec.{eqb}
 use lib.ListN.{length}
 use lib.IntN.{ℤ, pos, negsuc, negℤ}
-use lib.Ieee.{Float, nan, inf, fin, binary64, round, lt, neg, mul, isNan, ofBits}
+use lib.Ieee.{Float, nan, inf, fin, binary64, round, lt, neg, isNan, ofBits}
 use Rattle.float.specs.Units.{unitsOf}
 use Rattle.float.specs.Choice.{minOf}
-use Rattle.float.specs.Whole.{zero64}
+use Rattle.float.specs.Arithmetic.{_⊗_, zero64}
 use Rattle.power.specs.Roots.{roots}
 
 -- floor (y * 2 ^ 24) for a y of u units of 2 ^ -1074, with a minus sign where the Bool is true: then the quotient is rounded up
@@ -60,10 +60,10 @@ log2Sixty = ofBits binary64 0x4017a0a7eda4c113
 
 -- e ^ x, 10 ^ u and 60 ^ u
 unfoldable pub expOf : Float → Float
-expOf x = exp2Of (mul binary64 x log2E)
+expOf x = exp2Of (x ⊗ log2E)
 
 unfoldable pub exp10Of : Float → Float
-exp10Of u = exp2Of (mul binary64 u log2Ten)
+exp10Of u = exp2Of (u ⊗ log2Ten)
 
 unfoldable pub exp60Of : Float → Float
-exp60Of u = exp2Of (mul binary64 u log2Sixty)
+exp60Of u = exp2Of (u ⊗ log2Sixty)

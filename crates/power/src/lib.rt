@@ -8,9 +8,9 @@ ghost use Rattle.power.specs.Power.{raise, above, floorUnits, powAt, exp
 
 const ONE: u64 = 1073741824; // 2^30: 1 in the roots' units
 
-const STEPS: u64 = 16777216; // 2^24: an exponent is counted in steps of 1 / 2^24
+const SCALE: u64 = 16777216; // 2^24: an exponent is counted in steps of 1 / 2^24
 
-const THOUSAND: u64 = 1000 * STEPS;
+const THOUSAND: u64 = 1000 * SCALE;
 
 const FIELD: u64 = 4503599627370496; // 2^52: the weight of an f64's exponent
 
@@ -80,8 +80,8 @@ fn power_at(k: u64) -> f64
     requires { ⌜ k ≤ 2000 * 2 ^ 24 ⌝ }
     ensures { λ r. ⌜ r ≡ powAt k ⌝ }
 {
-    let n = k / STEPS;
-    let m = fraction(k % STEPS);
+    let n = k / SCALE;
+    let m = fraction(k % SCALE);
     f64::from_bits((n + 22) * FIELD + m * SPARE)
 }
 

@@ -1,4 +1,4 @@
--- The promises hold: each part is a law of its crate. Assumes nothing.
+-- The promises hold: each part is a law of its crate.
 use lib.Ieee.{binary64}
 use Rattle.float.proofs.Whole.{rounded}
 use Rattle.logarithm.proofs.Results.{log2-within, log2-value}

@@ -1,4 +1,4 @@
--- The examples of document 01 that are marked P, as one list.
+-- The examples of the specification that are marked P, as one list.
 use Rattle.logarithm.specs.Examples.{LogExamples}
 use Rattle.power.specs.Examples.{PowerExamples}
 use Rattle.detector.specs.Examples.{SmoothstepExamples}

@@ -7,7 +7,8 @@ use lib.Ieee.{Float, binary64, ofInt}
 use lib.ListN.{length}
 use Rattle.power.specs.Power.{expOf}
 use Rattle.level.specs.declared.Level.{Level}
-use Rattle.level.specs.Bs1770.{_⊘_, whole, fastCoeff}
+use Rattle.level.specs.Bs1770.{fastCoeff}
+use Rattle.float.specs.Arithmetic.{_⊘_, whole}
 use Rattle.level.specs.Level.{freshOf, frameOf}
 use Rattle.level.specs.Deque.{meterOf, meterNext, meterReading}
 use Rattle.level.specs.Heard.{ReadsBs1770, HearsSamples}

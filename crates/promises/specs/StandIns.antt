@@ -1,4 +1,4 @@
--- What document 01 asks to be proved of its stand-ins, beside the contracts that give their steps.
+-- What the specification asks to be proved of its stand-ins, beside the contracts that give their steps.
 use mathlib.Core.Path.{_≡_}
 use mathlib.Core.Bool.{true}
 use Prim.Native.Nat.{_^_}
@@ -8,7 +8,8 @@ use lib.Ieee.{Float, binary64, fits, lt, le, neg}
 use lib.Ieee.Exact.{HasValue}
 use lib.Ieee.Positive.{positive, num, den}
 use lib.Ieee.Scale.{finite}
-use Rattle.float.specs.Whole.{zero64, roundOf, Rounded}
+use Rattle.float.specs.Whole.{roundOf, Rounded}
+use Rattle.float.specs.Arithmetic.{zero64}
 use Rattle.float.specs.Valid.{Num, plus}
 use Rattle.logarithm.specs.Logarithm.{steps, negative, logOf, log2Of, Within}
 use Rattle.power.specs.Power.{thousand, floorOf, exp2Of, expOf, exp10Of, exp60Of}

@@ -25,7 +25,7 @@ pub fn ducker()
     ensures { λ _. ⌜ DuckerLaws ⌝ }
 {}
 
-// The examples of document 01 that are marked P.
+// The examples of the specification that are marked P.
 pub fn examples()
     ensures { λ _. ⌜ Examples ⌝ }
 {}

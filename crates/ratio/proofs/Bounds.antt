@@ -1,11 +1,11 @@
--- The reduction of an accepted frame lies between 0 and the deepest that the settings allow, whatever the loops held. Assumes nothing.
+-- The reduction of an accepted frame lies between 0 and the deepest that the settings allow, whatever the loops held.
 use mathlib.Core.Path.{_≡_, refl, subst}
 use mathlib.Core.Bool.{Bool, true, false, not, _&&_, cond}
 use lib.Dec.{T}
 use lib.Ieee.{Float, nan, inf, fin, lt, eq, le, isNan, ofBits}
 use lib.Ieee.Fits.{and-l, and-r}
 use lib.Ieee.Scale.{finite}
-use Rattle.float.specs.Whole.{zero64}
+use Rattle.float.specs.Arithmetic.{zero64}
 use Rattle.float.specs.Choice.{clampOf}
 use Rattle.comis.specs.declared.loop_bank.Loops.{Loops}
 use Rattle.comis.specs.LoopBank.{contributionsOf}

@@ -1,14 +1,14 @@
--- Two values without a minus sign that the format holds and that compare equal are one value. Assumes nothing.
+-- Two values without a minus sign that the format holds and that compare equal are one value.
 use Prim.Native.Nat.{_*_}
 use mathlib.Core.Path.{_≡_, refl}
 use mathlib.Core.Bool.{true, false}
 use lib.Dec.{T, eqb, eqb→eq}
 use lib.Ieee.{Float, nan, inf, fin, Format, up, down, eq}
 use lib.Ieee.Fits.{and-l, down-pos}
-use Rattle.float.specs.Valid.{Sum}
+use Rattle.float.specs.Valid.{NoMinus}
 use Rattle.float.proofs.Exact.{unique}
 
-pub eq-plus : (f : Format) (x y : Float) → Sum f x → Sum f y → T (eq x y) → x ≡ y
+pub eq-plus : (f : Format) (x y : Float) → NoMinus f x → NoMinus f y → T (eq x y) → x ≡ y
 unfolding eq
 eq-plus f nan y p q h = absurd h
 eq-plus f (inf s) nan p q h = absurd h

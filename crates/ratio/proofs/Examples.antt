@@ -1,4 +1,4 @@
--- The examples of document 01 for the ducker: by computation, and fast by its law. Assumes nothing.
+-- The examples of the specification for the ducker: by computation, and fast by its law.
 use mathlib.Core.Path.{refl}
 use lib.Ieee.{size, round, add, sum, sub, neg, lt, eq, le, ofInt, ofBits}
 use Rattle.comis.specs.LoopBank.{stepSlow, stepMid}

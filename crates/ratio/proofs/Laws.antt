@@ -1,4 +1,4 @@
--- The ducker's laws, together. Assumes nothing.
+-- The ducker's laws, together.
 use Rattle.ratio.specs.Laws.{DuckerLaws}
 use Rattle.ratio.proofs.Rust.{ratio-rust}
 use Rattle.ratio.proofs.Bounds.{reduction-bounds}

@@ -1,18 +1,19 @@
 -- After any list of frames ours answers as the Rust does: what its engine keeps besides the loops is set by each frame before anything reads it,
--- and a config that isn't set anew is the one that the frame asks for. Assumes nothing.
+-- and a config that isn't set anew is the one that the frame asks for.
 use mathlib.Core.Path.{_≡_, refl, sym, ap, ap₂, _∙_, subst}
 use mathlib.Core.Bool.{Bool, true, false, not, _&&_, Bool·beq, cond}
 use mathlib.Core.List.{List, [], _∷_}
 use lib.Dec.{T}
 use lib.Ieee.{Float, binary64, eq}
 use lib.Ieee.Fits.{and-l, and-r}
-use Rattle.float.specs.Valid.{Sum}
+use Rattle.float.specs.Valid.{NoMinus}
 use Rattle.comis.specs.declared.mix_state.MixState.{MixState}
 use Rattle.comis.specs.declared.mix_state.MixState.the-variants.{ReleaseToUnity, DuckToTarget, InterviewPassthrough, DuckToOvervoice}
 use Rattle.comis.specs.declared.loop_bank.Loops.{Loops}
 use Rattle.comis.specs.declared.engine.AutomixEngineConfig.{AutomixEngineConfig}
 use Rattle.comis.specs.MixState.{fromVad}
-use Rattle.comis.specs.LoopBank.{one64, totalOf, contributionsOf}
+use Rattle.comis.specs.LoopBank.{totalOf, contributionsOf}
+use Rattle.float.specs.Arithmetic.{one64}
 use Rattle.comis.specs.Engine.{loopConfig, activeTarget, processTick}
 use Rattle.comis.specs.Rust.{LoopBank, AutomixEngine, set-config, reset, target-in, process-tick, process-fast, total-reduction}
 use Rattle.comis.proofs.Rust.{bankIn, bankOf, engineOf, tick-same, fast-same}
@@ -29,10 +30,10 @@ use Rattle.ratio.proofs.Equal.{eq-plus}
 -- ---- what agrees
 
 pub record RatioStored (r : rust.Ratio) : Type 0 where
-  pub target : Sum binary64 (r .target)
-  pub overvoice : Sum binary64 (r .overvoice)
-  pub most : Sum binary64 (r .most)
-  pub speed : Sum binary64 (r .speed)
+  pub target : NoMinus binary64 (r .target)
+  pub overvoice : NoMinus binary64 (r .overvoice)
+  pub most : NoMinus binary64 (r .most)
+  pub speed : NoMinus binary64 (r .speed)
 
 -- The Rust's state holds the loops l and the config c, which is that of its settings. What else its engine keeps may be anything.
 pub record Holds (c : AutomixEngineConfig) (s : rust.State) (l : Loops) : Type 0 where

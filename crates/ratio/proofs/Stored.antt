@@ -1,4 +1,4 @@
--- The loops that a frame stores are values of binary64, and finite where the frame is told finite: so they may stand in an image. Assumes nothing.
+-- The loops that a frame stores are values of binary64, and finite where the frame is told finite: so they may stand in an image.
 use mathlib.Core.Bool.{Bool, true, false, _&&_, cond}
 use lib.Dec.{T}
 use lib.Ieee.{binary64, ofBits}

@@ -1,10 +1,10 @@
--- The examples of document 01 for the ducker: target 5, bed -20, dialogue -20 needs 5; bed -100 needs nothing and its loop keeps its value. Definitions only.
+-- The examples of the specification for the ducker: target 5, bed -20, dialogue -20 needs 5; bed -100 needs nothing and its loop keeps its value. Definitions only.
 use mathlib.Core.Path.{_≡_}
 use lib.Dec.{T}
 use lib.IntN.{pos, negsuc}
 use lib.Ieee.{Float, binary64, ofInt}
 use lib.Ieee.Scale.{finite}
-use Rattle.float.specs.Valid.{Sum}
+use Rattle.float.specs.Valid.{NoMinus}
 use Rattle.float.specs.declared.Lufs.{Lufs}
 use Rattle.comis.specs.declared.Shown.the-variants.{Silence, Level}
 use Rattle.comis.specs.declared.mix_state.MixState.{MixState}
@@ -30,6 +30,6 @@ pub record RatioExamples : Type 0 where
   pub slow-stays : (l : Loops) (c : LoopBankConfig) (s : MixState) (dt : Float) → stepSlow l c s (requiredReduction five minusHundred minusTwenty) dt .loops ≡ l
   pub mid-stays : (l : Loops) (c : LoopBankConfig) (s : MixState) (dt : Float) → stepMid l c s (requiredReduction five minusHundred minusTwenty) dt .loops ≡ l
   -- fast is stepped toward itself, and stays where it is a finite number without a minus sign (-0 would become 0)
-  pub fast-stays : (l : Loops) (c : LoopBankConfig) (s : MixState) (dt : Float) → T (isDucking s) → Sum binary64 (l .fast) → T (finite (l .fast))
+  pub fast-stays : (l : Loops) (c : LoopBankConfig) (s : MixState) (dt : Float) → T (isDucking s) → NoMinus binary64 (l .fast) → T (finite (l .fast))
       → T (updateFast l c s (requiredReduction five minusHundred minusTwenty) dt .finite)
       → updateFast l c s (requiredReduction five minusHundred minusTwenty) dt .loops ≡ l

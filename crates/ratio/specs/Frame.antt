@@ -2,7 +2,7 @@
 use mathlib.Core.Bool.{_&&_, cond}
 use lib.Ieee.{Float, binary64, ofBits}
 use lib.Ieee.Scale as scale
-use Rattle.float.specs.Whole.{zero64}
+use Rattle.float.specs.Arithmetic.{zero64}
 use Rattle.comis.specs.declared.Shown.the-variants.{Silence}
 use Rattle.comis.specs.declared.mix_state.MixState.the-variants.{ReleaseToUnity}
 use Rattle.comis.specs.declared.loop_bank.Loops.{Loops}

@@ -3,24 +3,25 @@
 -- The state's name is the state; `None` is `Silence` and `Some(x)` is `Level x`.
 use mathlib.Core.Bool.{Bool, not, _&&_, Bool·beq, cond}
 use mathlib.Core.List.{List, [], _∷_}
-use lib.Ieee.{Float, binary64, add, sub, mul, div, lt, eq}
-use Rattle.float.specs.Whole.{zero64, roundOf}
+use lib.Ieee.{Float, binary64, lt, eq}
+use Rattle.float.specs.Whole.{roundOf}
+use Rattle.float.specs.Arithmetic.{_⊕_, _⊖_, _⊗_, _⊘_, zero64, ten64, hundred64}
 use Rattle.comis.specs.declared.Shown.{Shown}
 use Rattle.comis.specs.declared.Shown.the-variants.{Silence, Level}
 use Rattle.comis.specs.declared.engine.AutomixEngineConfig.{AutomixEngineConfig}
-use Rattle.comis.specs.Engine.{silence}
+use Rattle.float.specs.Silence.{silenceLufs}
 use Rattle.comis.specs.Rust.{AutomixEngine, new-engine, set-config, reset, process-tick, process-fast, total-reduction, active-target-ratio}
 use Rattle.ratio.specs.declared.Duck.{Duck}
 use Rattle.ratio.specs.declared.Inputs.{Inputs}
 use Rattle.ratio.specs.declared.RatioStatus.{RatioStatus}
-use Rattle.ratio.specs.Status.{ten, hundred, db}
+use Rattle.ratio.specs.Status.{db}
 use Rattle.ratio.specs.Frame.{frameSeconds, disabledStatus}
 
 unfoldable pub reading : Float → Shown
-reading l = cond (lt silence l) (Level (div binary64 (roundOf binary64 (mul binary64 l ten)) ten)) Silence
+reading l = cond (lt silenceLufs l) (Level (roundOf binary64 (l ⊗ ten64) ⊘ ten64)) Silence
 
 unfoldable pub round : Float → Float
-round x = add binary64 (div binary64 (roundOf binary64 (mul binary64 x hundred)) hundred) zero64
+round x = roundOf binary64 (x ⊗ hundred64) ⊘ hundred64 ⊕ zero64
 
 -- `d.ratio`
 pub record Ratio : Type 0 where
@@ -62,8 +63,8 @@ off s d = record { engine = reset (s .engine); ratio = s .ratio; reduction = zer
 
 unfoldable pub ratioLu : Float → Float → Float → Shown
 ratioLu dialogue bed reduction =
-    cond (lt silence dialogue && lt silence bed)
-    (Level (div binary64 (roundOf binary64 (mul binary64 (round (add binary64 (sub binary64 dialogue bed) reduction)) ten)) ten))
+    cond (lt silenceLufs dialogue && lt silenceLufs bed)
+    (Level ((roundOf binary64 (round (dialogue ⊖ bed ⊕ reduction) ⊗ ten64)) ⊘ ten64))
     Silence
 
 -- what is shown of an engine after `process_fast`

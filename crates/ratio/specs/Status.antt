@@ -1,7 +1,8 @@
 -- What is shown of a frame: the Rust's `RatioStatus`, each operation rounded in its order. Definitions only.
 use mathlib.Core.Bool.{_&&_, cond}
-use lib.Ieee.{Float, binary64, add, sub, mul, div, lt, ofBits}
-use Rattle.float.specs.Whole.{zero64, roundOf}
+use lib.Ieee.{Float, binary64, lt}
+use Rattle.float.specs.Whole.{roundOf}
+use Rattle.float.specs.Arithmetic.{_⊕_, _⊖_, _⊗_, _⊘_, zero64, ten64, hundred64}
 use Rattle.float.specs.declared.Lufs.{Lufs}
 use Rattle.float.specs.declared.Db.{Db}
 use Rattle.comis.specs.declared.Shown.{Shown}
@@ -9,32 +10,27 @@ use Rattle.comis.specs.declared.Shown.the-variants.{Silence, Level}
 use Rattle.comis.specs.declared.mix_state.MixState.{MixState}
 use Rattle.comis.specs.declared.loop_bank.LoopContributions.{LoopContributions}
 use Rattle.comis.specs.declared.engine.AutomixEngineConfig.{AutomixEngineConfig}
-use Rattle.comis.specs.Engine.{silence, activeTarget}
+use Rattle.comis.specs.Engine.{activeTarget}
+use Rattle.float.specs.Silence.{silenceLufs}
 use Rattle.ratio.specs.declared.Duck.{Duck}
 use Rattle.ratio.specs.declared.Inputs.{Inputs}
 use Rattle.ratio.specs.declared.RatioStatus.{RatioStatus}
 
-abbrev pub ten : Float
-ten = ofBits binary64 0x4024000000000000
-
-abbrev pub hundred : Float
-hundred = ofBits binary64 0x4059000000000000
-
 -- to 0.1
 abbrev pub tenths : Float → Float
-tenths x = div binary64 (roundOf binary64 (mul binary64 x ten)) ten
+tenths x = roundOf binary64 (x ⊗ ten64) ⊘ ten64
 
 -- to 0.01; + 0 makes negative zero zero
 unfoldable pub roundedOf : Float → Float
-roundedOf x = add binary64 (div binary64 (roundOf binary64 (mul binary64 x hundred)) hundred) zero64
+roundedOf x = roundOf binary64 (x ⊗ hundred64) ⊘ hundred64 ⊕ zero64
 
 unfoldable pub readingOf : Lufs → Shown
-readingOf l = cond (lt silence (l .0)) (Level (tenths (l .0))) Silence
+readingOf l = cond (lt silenceLufs (l .0)) (Level (tenths (l .0))) Silence
 
 unfoldable pub ratioShown : Lufs → Lufs → Db → Shown
 ratioShown dialogue bed reduction =
-    cond (lt silence (dialogue .0) && lt silence (bed .0))
-    (Level (tenths (roundedOf (add binary64 (sub binary64 (dialogue .0) (bed .0)) (reduction .0)))))
+    cond (lt silenceLufs (dialogue .0) && lt silenceLufs (bed .0))
+    (Level (tenths (roundedOf (dialogue .0 ⊖ bed .0 ⊕ reduction .0))))
     Silence
 
 abbrev pub configOf : Duck → AutomixEngineConfig

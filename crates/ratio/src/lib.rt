@@ -1,6 +1,5 @@
 // One frame of a ratio duck: by how many decibels the bed goes down, so that the dialogue stays a target above it.
 // Readings are those of the dry signals, LUFS.
-use comis::SILENCE_LUFS;
 use comis::Shown;
 use comis::engine::AutomixEngineConfig;
 use comis::engine::LoudnessSnapshot;
@@ -9,6 +8,7 @@ use comis::loop_bank::Loops;
 use comis::mix_state::MixState;
 use float::Db;
 use float::Lufs;
+use float::SILENCE_LUFS;
 ghost use mathlib.Core.Path.{_≡_};
 ghost use Rattle.ratio.specs.Status.{readingOf, roundedOf, ratioShown, configOf, statusOf};
 ghost use Rattle.ratio.specs.Finite.{finiteShown, finiteLoops, finiteStatus};

@@ -58,7 +58,7 @@ fn loudness(w: &[u64; GIVEN]) -> level::Framed {
 fn power_words(p: SpeechPower) -> [u64; 2] {
     match p {
         SpeechPower::Unset => [0, 0],
-        SpeechPower::At(x) => [1, codec::bits64(x)],
+        SpeechPower::At(x) => [1, float::to_bits(x)],
     }
 }
 

@@ -10,12 +10,12 @@ use detector::Frame;
 fn words(f: Frame) -> [u64; 6] {
     let features = f.features;
     [
-        codec::bits64(f.probability),
-        codec::bits64(f.level_dbfs),
-        codec::bits64(features.over_floor_db),
-        codec::bits64(features.modulation_db),
-        codec::bits64(features.voicing),
-        codec::bits64(features.anti),
+        float::to_bits(f.probability),
+        float::to_bits(f.level_dbfs),
+        float::to_bits(features.over_floor_db),
+        float::to_bits(features.modulation_db),
+        float::to_bits(features.voicing),
+        float::to_bits(features.anti),
     ]
 }
 

@@ -43,10 +43,10 @@ fn inputs(w: &[u64; INPUTS]) -> Inputs {
 
 fn stored(l: Loops) -> [u64; 4] {
     [
-        codec::bits64(l.slow),
-        codec::bits64(l.mid),
-        codec::bits64(l.fast),
-        codec::bits64(l.hold_remaining_seconds),
+        float::to_bits(l.slow),
+        float::to_bits(l.mid),
+        float::to_bits(l.fast),
+        float::to_bits(l.hold_remaining_seconds),
     ]
 }
 

@@ -31,7 +31,7 @@ fn play(
     let mut i = 0;
     while i < count {
         let t = state.tick(c, std::num::f32_to_f64_with_nan(s.sample(i)));
-        r = r.answer(name, buffer, i, &[codec::bits64(t.y)]);
+        r = r.answer(name, buffer, i, &[float::to_bits(t.y)]);
         if r.input.ended {
             return r;
         }
@@ -43,7 +43,7 @@ fn play(
         name,
         buffer,
         count,
-        &[codec::bits64(state.z1), codec::bits64(state.z2)],
+        &[float::to_bits(state.z1), float::to_bits(state.z2)],
     )
 }
 

@@ -35,14 +35,14 @@ struct Given {
 fn frame_code(o: Outcome) -> u64 {
     match o {
         Outcome::Passed(_) => 0,
-        Outcome::Refused(refusal) => demands::number(refusal),
+        Outcome::Refused(refusal) => refusal::number(refusal),
     }
 }
 
 fn call_code(v: Verdict) -> u64 {
     match v {
         Verdict::Passed => 0,
-        Verdict::Refused(refusal) => demands::number(refusal),
+        Verdict::Refused(refusal) => refusal::number(refusal),
     }
 }
 

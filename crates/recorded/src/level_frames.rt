@@ -9,10 +9,10 @@ use level::Reading;
 
 fn words(r: Reading) -> [u64; 4] {
     [
-        codec::bits64(r.power),
-        codec::bits64(r.momentary.0),
-        codec::bits64(r.short_term.0),
-        codec::bits64(r.fast.0),
+        float::to_bits(r.power),
+        float::to_bits(r.momentary.0),
+        float::to_bits(r.short_term.0),
+        float::to_bits(r.fast.0),
     ]
 }
 

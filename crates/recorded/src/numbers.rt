@@ -12,15 +12,15 @@ const PLACES: usize = 10;
 fn result(function: usize, argument: u64) -> u64 {
     let x = float::from_bits(argument);
     match function {
-        1 => codec::bits64(logarithm::log2(x)),
-        2 => codec::bits64(logarithm::log10(x)),
-        3 => codec::bits64(power::exp2(x)),
-        4 => codec::bits64(power::exp(x)),
-        5 => codec::bits64(power::exp10(x)),
-        6 => codec::bits64(power::exp60(x)),
-        7 => codec::bits64(root::sqrt(x)),
-        8 => codec::bits32(narrow::narrow(x)),
-        _ => codec::bits64(float::round(x)),
+        1 => float::to_bits(logarithm::log2(x)),
+        2 => float::to_bits(logarithm::log10(x)),
+        3 => float::to_bits(power::exp2(x)),
+        4 => float::to_bits(power::exp(x)),
+        5 => float::to_bits(power::exp10(x)),
+        6 => float::to_bits(power::exp60(x)),
+        7 => float::to_bits(root::sqrt(x)),
+        8 => float::to_bits32(narrow::narrow(x)) as u64,
+        _ => float::to_bits(float::round(x)),
     }
 }
 

@@ -67,7 +67,7 @@ fn code(n: u64) -> bool {
 pub fn frame(outcome: Outcome) -> bool {
     match outcome {
         Outcome::Passed(a) => passed(a),
-        Outcome::Refused(refusal) => code(demands::number(refusal)),
+        Outcome::Refused(refusal) => code(refusal::number(refusal)),
     }
 }
 
@@ -75,7 +75,7 @@ pub fn frame(outcome: Outcome) -> bool {
 pub fn verdict(verdict: Verdict) -> bool {
     match verdict {
         Verdict::Passed => code(0),
-        Verdict::Refused(refusal) => code(demands::number(refusal)),
+        Verdict::Refused(refusal) => code(refusal::number(refusal)),
     }
 }
 
@@ -92,6 +92,6 @@ fn image(lent: &[u8; IMAGE]) -> bool {
 pub fn saved(verdict: Verdict, lent: &[u8; IMAGE]) -> bool {
     match verdict {
         Verdict::Passed => image(lent),
-        Verdict::Refused(refusal) => code(demands::number(refusal)),
+        Verdict::Refused(refusal) => code(refusal::number(refusal)),
     }
 }

@@ -1,4 +1,4 @@
--- The root by what an f64 is. Assumes nothing.
+-- The root by what an f64 is.
 use mathlib.Core.Path.{_≡_, refl, sym, ap, _∙_, subst}
 use mathlib.Core.Bool.{Bool, true, false}
 use Prim.Native.Nat.{ℕ, zero, suc, _*_, _^_, _<_}

@@ -1,4 +1,4 @@
--- The exact check of a guess at a square root, in halves of 26 and 27 digits. Assumes nothing.
+-- The exact check of a guess at a square root, in halves of 26 and 27 digits.
 use mathlib.Core.Path.{_≡_, refl, sym, ap, _∙_, subst}
 use mathlib.Core.Bool.{true, false, not, true≢false}
 use Prim.Native.Nat.{ℕ, zero, suc, _+_, _-_, _*_, _/_, _^_, _≤_, _<_}

@@ -1,4 +1,4 @@
--- The root of a * 2 ^ 54 digit by digit, and the nearest whole number to its half. Assumes nothing.
+-- The root of a * 2 ^ 54 digit by digit, and the nearest whole number to its half.
 use mathlib.Core.Path.{_≡_, sym, ap, _∙_, subst}
 use Prim.Native.Nat.{ℕ, _+_, _-_, _*_, _/_, _%_, _^_, _≤_, _<_}
 use native.Mathlib.Nat.{mul-le-mul, mul-assoc, mul-comm, le-of-eq, lt-of-le-of-lt, lt-of-lt-of-le, mul-lt-mul-of-pos-right, lt-of-mul-lt-mul-right}

@@ -1,4 +1,4 @@
--- Roots worked out by the definition. Assumes nothing.
+-- Roots worked out by the definition.
 use mathlib.Core.Path.{_≡_, refl}
 use mathlib.Core.Bool.{true, false}
 use lib.Ieee.{nan, inf, binary64, ofBits}

@@ -1,4 +1,4 @@
--- What other modules need of a root: it is an f64, it is finite, and it has a minus sign only where it is a zero. Assumes nothing.
+-- What other modules need of a root: it is an f64, it is finite, and it has a minus sign only where it is a zero.
 use mathlib.Core.Path.{_≡_, refl, sym, subst}
 use mathlib.Core.Bool.{Bool, true, false, not}
 use mathlib.Core.Logic.{_⊎_, inl, inr}

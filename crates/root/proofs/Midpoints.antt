@@ -1,4 +1,4 @@
--- The root of N against the midpoints beside q * 2 ^ k, by their squares. Assumes nothing.
+-- The root of N against the midpoints beside q * 2 ^ k, by their squares.
 use mathlib.Core.Path.{_≡_, sym, ap, _∙_}
 use Prim.Native.Nat.{ℕ, _+_, _-_, _*_, _^_, _≤_, _<_}
 use native.Mathlib.Nat.{le-trans, le-of-eq, lt-of-lt-of-le, lt-of-le-of-lt, mul-mul-mul-comm, mul-pos, mul-le-mul, mul-le-mul-right, mul-lt-mul-of-pos-right}

@@ -1,4 +1,4 @@
--- The root is nearest, and nothing else is. Assumes nothing.
+-- The root is nearest, and nothing else is.
 use mathlib.Core.Path.{_≡_, refl, sym, ap, _∙_, subst}
 use mathlib.Core.Bool.{true, false}
 use mathlib.Core.Logic.{_⊎_, inl, inr}

@@ -1,4 +1,4 @@
--- A value less than half a unit from a / b is a / b rounded, and the whole part of a root rounds as the root does. Assumes nothing.
+-- A value less than half a unit from a / b is a / b rounded, and the whole part of a root rounds as the root does.
 use mathlib.Core.Path.{_≡_, sym, ap, _∙_, subst}
 use mathlib.Core.Bool.{false, not}
 use Prim.Native.Nat.{ℕ, zero, suc, _+_, _-_, _*_, _/_, _%_, _^_, _≤_, _<_, min, compare, Ordering, Ordering·lt, Ordering·eq, Ordering·gt}

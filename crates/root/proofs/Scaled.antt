@@ -1,4 +1,4 @@
--- The 53 or 54 digits of a value whose root is taken, and its exponent, which is even. Assumes nothing.
+-- The 53 or 54 digits of a value whose root is taken, and its exponent, which is even.
 use mathlib.Core.Path.{_≡_, refl, sym, ap, _∙_}
 use Prim.Native.Nat.{ℕ, zero, suc, _+_, _-_, _*_, _/_, _%_, _^_, _≤_, _<_}
 use native.Mathlib.Nat.{le-trans, le-of-eq, lt-of-lt-of-le, lt-of-not-le, not-le-of-lt, mul-assoc, mul-mul-mul-comm, mod-lt, mod-eq-of-lt, mul-le-mul-right, mul-lt-mul-of-pos-right, pow-succ'}

@@ -1,4 +1,4 @@
--- Squares of whole numbers, and `floorRoot`. Assumes nothing.
+-- Squares of whole numbers, and `floorRoot`.
 use mathlib.Core.Path.{_≡_, sym, subst}
 use mathlib.Core.Bool.{Bool, cond}
 use Prim.Native.Nat.{ℕ, zero, suc, _+_, _*_, _/_, _^_, _≤_, _<_}

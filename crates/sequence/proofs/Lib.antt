@@ -5,3 +5,4 @@ pub mod Latest
 pub mod Newest
 pub mod Places
 pub mod Counted
+pub mod All

@@ -1,4 +1,4 @@
--- Products that the signals form are small, and the sines are. Assumes nothing.
+-- Products that the signals form are small, and the sines are.
 use mathlib.Core.Bool.{Bool, true, _&&_}
 use mathlib.Core.List.{List, [], _∷_}
 use Prim.Native.Nat.{ℕ, zero, suc, _+_, _*_, _/_, _≤_, _<_}

@@ -1,4 +1,4 @@
--- The words of a strand are read and written again exactly where document 01's rules hold of them.
+-- The words of a strand are read and written again exactly where the specification's rules hold of them.
 use mathlib.Core.Path.{_≡_, refl, sym, ap, _∙_, subst}
 use mathlib.Core.Bool.{Bool, true, false, not, _||_}
 use mathlib.Core.List.{List, [], _∷_}
@@ -370,7 +370,7 @@ module _ (l : List ℕ) (s : Words l) where
     e626 : i + 621 + 5 ≡ i + 626
     e626 = omega arith
 
-    -- the words of the window and of the counts, at the places that document 01 counts from the strand's first
+    -- the words of the window and of the counts, at the places that the specification counts from the strand's first
     window-at : Iff (WindowWords (i + 567 + 2)) (Finite64 (word (i + 569)) × (word (i + 570) ≤ 24) × (word (i + 570) ≡ 0 → word (i + 569) ≡ 0))
     window-at =
         let p : _≡_ {A = Type 0} (WindowWords (i + 567 + 2)) (Finite64 (word (i + 569)) × (word (i + 570) ≤ 24) × (word (i + 570) ≡ 0 → word (i + 569) ≡ 0)) =

@@ -1,4 +1,4 @@
--- Document 01's rules for the 628 words of a strand, word by word and in its order: what the words l from place i on have to be. Definitions only.
+-- The specification's rules for the 628 words of a strand, word by word and in its order: what the words l from place i on have to be. Definitions only.
 use mathlib.Core.Path.{_≡_}
 use mathlib.Core.List.{List}
 use Prim.Native.Nat.{ℕ, _+_, _^_, _≤_, _<_}

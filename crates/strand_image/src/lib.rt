@@ -329,7 +329,7 @@ fn get_window(w: &[u64], at: usize) -> Window
     let least = codec::get64(w, at);
     let frames = codec::get_capped(w, at + 1, WINDOW) as usize;
     if frames == 0 {
-        if codec::bits64(least) != 0 {
+        if float::to_bits(least) != 0 {
             return Window {
                 least: 0.0,
                 frames: 0,

@@ -1,4 +1,4 @@
--- The examples of document 01 for the hold, computed.
+-- The examples of the specification for the hold, computed.
 use mathlib.Core.Path.{refl}
 use lib.Ieee.{ofBits, div, round, toUnsigned}
 use Rattle.float.specs.Whole.{roundOf}

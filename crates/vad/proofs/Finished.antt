@@ -2,7 +2,7 @@
 use mathlib.Core.Path.{_≡_}
 use mathlib.Core.Bool.{Bool, _&&_}
 use lib.Ieee.{Float}
-use Rattle.level.specs.Finite.{allFinite}
+use Rattle.float.specs.AllFinite.{allFinite}
 use Rattle.level.specs.declared.Framed as metered
 use Rattle.detector.specs.declared.Heard.{Heard}
 use Rattle.vad.specs.declared.VadSettings.{VadSettings}

@@ -9,8 +9,8 @@ use lib.Ieee.{Float, lt, le}
 use lib.Ieee.Fits.{and-l, and-r}
 use Rattle.power.specs.Power.{exp10Of}
 use Rattle.level.specs.Level as level
-use Rattle.level.specs.Bs1770.{zero64}
-use Rattle.level.specs.Finite.{allFinite}
+use Rattle.float.specs.Arithmetic.{zero64}
+use Rattle.float.specs.AllFinite.{allFinite}
 use Rattle.level.specs.Deque.{Meter, meterOf, meterNext, meterReading}
 use Rattle.level.proofs.Deque.{level-deque, level-deque-reading, level-places}
 use Rattle.detector.specs.Detector as detector

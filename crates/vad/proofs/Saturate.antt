@@ -9,9 +9,7 @@ use lib.Dec.{T, lt→ltb}
 use lib.Ieee.{Float, nan, inf, fin, binary64, up, down, lt, ofBits, toUnsigned}
 use lib.Ieee.Fits.{down-pos}
 use borrow.Author.Tests.{ltb-true, ltb-false}
-
-abbrev pub zero64 : Float
-zero64 = ofBits binary64 0
+use Rattle.float.specs.Arithmetic.{zero64}
 
 abbrev pub two32 : Float
 two32 = ofBits binary64 0x41f0000000000000

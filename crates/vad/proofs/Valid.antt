@@ -14,8 +14,8 @@ use borrow.Author.Tests.{leb-false}
 use Rattle.float.specs.Valid.{Num}
 use Rattle.float.specs.Choice.{minOf}
 use Rattle.power.specs.Power.{above, floorOf, powAt, thousand, log2Ten, exp2Of, exp10Of}
-use Rattle.level.specs.Bs1770.{zero64}
-use Rattle.level.specs.Finite.{allFinite}
+use Rattle.float.specs.Arithmetic.{zero64}
+use Rattle.float.specs.AllFinite.{allFinite}
 use Rattle.level.specs.Level as level
 use Rattle.level.specs.declared.Framed as metered
 use Rattle.level.proofs.Finite.{all-at}

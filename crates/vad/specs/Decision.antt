@@ -5,7 +5,7 @@ use lib.Dec.{eqb, leb}
 use lib.Ieee.{Float, binary64, lt, le, ofBits}
 use Rattle.float.specs.Choice.{maxOf}
 use Rattle.power.specs.Power.{exp10Of}
-use Rattle.level.specs.Bs1770.{_⊕_, _⊖_, _⊗_, _⊘_, zero64}
+use Rattle.float.specs.Arithmetic.{_⊕_, _⊖_, _⊗_, _⊘_, zero64}
 use Rattle.vad.specs.declared.VadSettings.{VadSettings}
 use Rattle.vad.specs.declared.SpeechPower.{SpeechPower}
 use Rattle.vad.specs.declared.SpeechPower.the-variants.{Unset, At}

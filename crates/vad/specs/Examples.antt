@@ -1,4 +1,4 @@
--- The examples of document 01 for the hold.
+-- The examples of the specification for the hold.
 use mathlib.Core.Path.{_≡_}
 use lib.Ieee.{binary64, ofBits}
 use Rattle.vad.specs.Hold.{holdFrames}

@@ -2,7 +2,7 @@
 use Prim.Native.Nat.{ℕ}
 use lib.Ieee.{Float, binary64, ofBits, toUnsigned}
 use Rattle.float.specs.Whole.{roundOf}
-use Rattle.level.specs.Bs1770.{_⊘_}
+use Rattle.float.specs.Arithmetic.{_⊘_}
 
 unfoldable pub holdFrames : Float → ℕ
 holdFrames ms = toUnsigned 32 (roundOf binary64 (ms ⊘ ofBits binary64 0x4024000000000000))

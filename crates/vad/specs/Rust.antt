@@ -5,7 +5,7 @@ use mathlib.Core.List.{List}
 use lib.Dec.{eqb}
 use lib.Ieee.{Float, lt, le}
 use Rattle.power.specs.Power.{exp10Of}
-use Rattle.level.specs.Bs1770.{zero64}
+use Rattle.float.specs.Arithmetic.{zero64}
 use Rattle.level.specs.declared.Reading.{Reading}
 use Rattle.level.specs.Deque.{Meter, newMeter, meterNext, meterReading}
 use Rattle.detector.specs.Steps.{silenceDb, dbOf}

@@ -3,7 +3,7 @@ use mathlib.Core.Bool.{Bool, cond}
 use mathlib.Core.List.{List, [], _∷_}
 use lib.Ieee.{Float, binary64, ofBits}
 use Rattle.float.specs.Whole.{roundOf}
-use Rattle.level.specs.Bs1770.{_⊗_, _⊘_, zero64}
+use Rattle.float.specs.Arithmetic.{_⊗_, _⊘_, zero64}
 use Rattle.level.specs.declared.Reading.{Reading}
 use Rattle.detector.specs.declared.Features.{Features}
 use Rattle.detector.specs.declared.Frame.{Frame}

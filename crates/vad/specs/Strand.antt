@@ -3,8 +3,8 @@ use Prim.Native.Nat.{ℕ, _+_, _%_, _^_}
 use mathlib.Core.Bool.{Bool, false, _&&_}
 use mathlib.Core.List.{List}
 use lib.Ieee.{Float, lt}
-use Rattle.level.specs.Bs1770.{zero64}
-use Rattle.level.specs.Finite.{allFinite}
+use Rattle.float.specs.Arithmetic.{zero64}
+use Rattle.float.specs.AllFinite.{allFinite}
 use Rattle.level.specs.Level as level
 use Rattle.level.specs.declared.Framed as metered
 use Rattle.detector.specs.declared.Heard.{Heard}

@@ -18,7 +18,7 @@ ghost use Rattle.vad.specs.Decision.{
 };
 ghost use Rattle.vad.specs.State.{tenthsOf, hundredthsOf, roundedOf, speechLevelOf, stateOf, powerNumber, levelNumber, handedOf, numbersOf};
 ghost use Rattle.vad.specs.Strand.{noSpeech, freshOf, finishOf, frameOf, stoppedOf, resetOf};
-ghost use Rattle.level.specs.Finite.{allFinite};
+ghost use Rattle.float.specs.AllFinite.{allFinite};
 use detector::FeatureDetector;
 use detector::Features;
 use detector::Frame;
@@ -331,7 +331,7 @@ fn sound(d: Decision, s: VadState) -> bool
         f.voicing,
         f.anti,
     ];
-    level::all_finite(&numbers)
+    float::all_finite(&numbers)
 }
 
 // What follows level and detector over a frame: the decision, and what is answered.

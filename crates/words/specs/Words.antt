@@ -6,7 +6,7 @@ use lib.Dec.{eqb}
 use lib.ListN.{getD}
 use lib.Ieee.{Float, binary64, toBits, ofBits}
 use Rattle.float.specs.declared.Db.{Db}
-use Rattle.level.specs.Bs1770.{zero64}
+use Rattle.float.specs.Arithmetic.{zero64}
 use Rattle.codec.specs.Fields.{flagBits}
 use Rattle.comis.specs.Shown.{shownFlag, shownValue}
 use Rattle.comis.specs.MixState.{stateNumber}

@@ -16,7 +16,6 @@ ghost use Rattle.words.specs.Words.{
 };
 use chain::Answer;
 use chain::Settings;
-use codec::bits64;
 use codec::flag_bits;
 use float::Db;
 use float::Lufs;
@@ -37,18 +36,18 @@ pub fn status(reduction: Db, s: RatioStatus) -> [u64; 13]
     let bed_lufs = s.bed_lufs;
     [
         state.number(),
-        bits64(reduction.0),
-        bits64(s.reduction_db.0),
-        bits64(s.slow_db.0),
-        bits64(s.mid_db.0),
-        bits64(s.fast_db.0),
-        bits64(s.target_lu),
+        float::to_bits(reduction.0),
+        float::to_bits(s.reduction_db.0),
+        float::to_bits(s.slow_db.0),
+        float::to_bits(s.mid_db.0),
+        float::to_bits(s.fast_db.0),
+        float::to_bits(s.target_lu),
         ratio_lu.flag(),
-        bits64(ratio_lu.value()),
+        float::to_bits(ratio_lu.value()),
         dialogue_lufs.flag(),
-        bits64(dialogue_lufs.value()),
+        float::to_bits(dialogue_lufs.value()),
         bed_lufs.flag(),
-        bits64(bed_lufs.value()),
+        float::to_bits(bed_lufs.value()),
     ]
 }
 
@@ -81,19 +80,19 @@ pub fn strand(s: VadState) -> [u64; 14]
     let f = s.features;
     [
         flag_bits(s.speech_active),
-        bits64(s.speech_probability),
+        float::to_bits(s.speech_probability),
         speech_flag(level),
-        bits64(speech_value(level)),
-        bits64(s.level_dbfs),
-        bits64(s.momentary_lufs.0),
+        float::to_bits(speech_value(level)),
+        float::to_bits(s.level_dbfs),
+        float::to_bits(s.momentary_lufs.0),
         flag_bits(s.gated),
-        bits64(s.short_term_lufs.0),
+        float::to_bits(s.short_term_lufs.0),
         s.speech_onsets,
         s.speech_offsets,
-        bits64(f.over_floor_db),
-        bits64(f.modulation_db),
-        bits64(f.voicing),
-        bits64(f.anti),
+        float::to_bits(f.over_floor_db),
+        float::to_bits(f.modulation_db),
+        float::to_bits(f.voicing),
+        float::to_bits(f.anti),
     ]
 }
 

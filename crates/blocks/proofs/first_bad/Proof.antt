@@ -1,4 +1,4 @@
--- `blocks::first_bad` meets its contract: from each block on, the first bad one is that of the whole. Assumes nothing.
+-- `blocks::first_bad` meets its contract: from each block on, the first bad one is that of the whole.
 use mathlib.Core.Path.{_≡_, sym, _∙_}
 use mathlib.Core.Logic.{⊎-elim}
 use Prim.Native.Nat.{_-_, _≤_}

@@ -1,4 +1,4 @@
--- `blocks::mixed` meets its contract. Assumes nothing.
+-- `blocks::mixed` meets its contract.
 use mathlib.Core.Path.{_∙_, ap}
 use Prim.Native.Nat.{ℕ, _+_, _%_, _^_}
 use Rattle.blocks.specs.Words.{mixed}

@@ -1,4 +1,4 @@
--- `blocks::payload` meets its contract: the first k words of the payload are laid. Assumes nothing.
+-- `blocks::payload` meets its contract: the first k words of the payload are laid.
 use mathlib.Core.Path.{sym, _∙_}
 use Prim.Native.Nat.{_-_, _≤_}
 use native.Mathlib.Omega.{arith}

@@ -1,4 +1,4 @@
--- `blocks::read8` meets its contract. Assumes nothing.
+-- `blocks::read8` meets its contract.
 use native.Mathlib.Omega.{arith}
 use Rattle.blocks.specs.Words.{word8}
 use borrow.Author.Needs.{needs}

@@ -1,4 +1,4 @@
--- `blocks::rotated` meets its contract. Assumes nothing.
+-- `blocks::rotated` meets its contract.
 use native.Mathlib.Omega.{arith}
 use lib.Bits.{bitOr, or-shifted}
 use mathlib.Core.Path.{_≡_}

@@ -1,4 +1,4 @@
--- `blocks::same` meets its contract: from each place on, what is left compares as the whole does. Assumes nothing.
+-- `blocks::same` meets its contract: from each place on, what is left compares as the whole does.
 use mathlib.Core.Path.{_≡_, sym, refl}
 use Prim.Native.Nat.{_-_, _≤_}
 use native.Mathlib.Omega.{arith}

@@ -1,4 +1,4 @@
--- `blocks::word_or_zero` meets its contract. Assumes nothing.
+-- `blocks::word_or_zero` meets its contract.
 use mathlib.Core.Path.{sym}
 use lib.ListN.{List·getD-eq-default}
 use borrow.Author.Needs.{needs}

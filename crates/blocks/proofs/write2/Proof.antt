@@ -1,4 +1,4 @@
--- `blocks::write2` meets its contract. Assumes nothing.
+-- `blocks::write2` meets its contract.
 use native.Mathlib.Omega.{arith}
 use native.Mathlib.Numerals.{add-one}
 use lib.ListN.{length-set}

@@ -1,4 +1,4 @@
--- `blocks::write8` meets its contract. Assumes nothing.
+-- `blocks::write8` meets its contract.
 use mathlib.Core.Path.{refl}
 use Rattle.blocks.specs.Words.{bytes4, bytes8}
 use Rattle.blocks.proofs.Lists.{next}

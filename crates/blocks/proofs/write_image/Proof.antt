@@ -1,4 +1,4 @@
--- `blocks::write_image` meets its contract: after each word, the first words of the image are laid. Assumes nothing.
+-- `blocks::write_image` meets its contract: after each word, the first words of the image are laid.
 use Prim.Native.Nat.{_-_, _*_, _≤_}
 use native.Mathlib.Omega.{arith}
 use Rattle.blocks.specs.Words.{blockWords, checkedWords}

@@ -1,7 +1,7 @@
 -- `finished` meets its contract: level, detector, then the decision.
 use mathlib.Core.Path.{sym}
 use borrow.Author.Needs.{needs}
-use Rattle.chain.specs.Strands.{finishedOf}
+use Rattle.chain.specs.StrandFrames.{finishedOf}
 use Rattle.chain.proofs.finished.Statement.{statement}
 use Rattle.chain.proofs.finished.Tie as tie
 

@@ -1,4 +1,4 @@
--- `codec::capped` meets its contract. Assumes nothing.
+-- `codec::capped` meets its contract.
 use mathlib.Core.Path.{sym}
 use Rattle.codec.specs.Kept.{capped-same, capped-out}
 use Rattle.codec.proofs.capped.Statement.{statement}

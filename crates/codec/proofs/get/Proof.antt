@@ -1,4 +1,4 @@
--- `codec::get` meets its contract. Assumes nothing.
+-- `codec::get` meets its contract.
 use mathlib.Core.Path.{sym}
 use lib.ListN.{List·getD-eq-default}
 use borrow.Author.Needs.{needs}

@@ -1,4 +1,4 @@
--- `codec::get64` meets its contract. Assumes nothing.
+-- `codec::get64` meets its contract.
 use mathlib.Core.Path.{_∙_, ap}
 use lib.Ieee.{binary64}
 use Rattle.codec.specs.Fields.{numOf}

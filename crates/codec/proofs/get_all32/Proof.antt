@@ -1,4 +1,4 @@
--- `codec::get_all32` meets its contract: the first k places are read. Assumes nothing.
+-- `codec::get_all32` meets its contract: the first k places are read.
 use mathlib.Core.Path.{refl}
 use Prim.Native.Nat.{_-_, _≤_}
 use native.Mathlib.Omega.{arith}

@@ -1,4 +1,4 @@
--- `codec::get_capped` meets its contract. Assumes nothing.
+-- `codec::get_capped` meets its contract.
 use mathlib.Core.Path.{_∙_, ap}
 use Rattle.codec.specs.Fields.{capped}
 use borrow.Author.Needs.{needs}

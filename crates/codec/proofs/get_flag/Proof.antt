@@ -1,4 +1,4 @@
--- `codec::get_flag` meets its contract. Assumes nothing.
+-- `codec::get_flag` meets its contract.
 use mathlib.Core.Path.{ap}
 use Prim.Native.Nat.{ℕ}
 use lib.Dec.{eqb}

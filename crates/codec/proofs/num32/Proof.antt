@@ -1,4 +1,4 @@
--- `codec::num32` meets its contract. Assumes nothing.
+-- `codec::num32` meets its contract.
 use mathlib.Core.Path.{sym}
 use lib.Ieee.{binary32}
 use Rattle.codec.proofs.Numbers.{numOf-in, numOf-out, numOf-wide, no-nan}

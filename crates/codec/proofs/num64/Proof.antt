@@ -1,4 +1,4 @@
--- `codec::num64` meets its contract. Assumes nothing.
+-- `codec::num64` meets its contract.
 use mathlib.Core.Path.{sym}
 use native.Mathlib.Omega.{arith}
 use lib.Ieee.{binary64}

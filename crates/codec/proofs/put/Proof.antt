@@ -1,4 +1,4 @@
--- `codec::put` meets its contract. Assumes nothing.
+-- `codec::put` meets its contract.
 use mathlib.Core.Path.{refl}
 use Rattle.blocks.proofs.Lists.{stored}
 use Rattle.codec.proofs.Places.{dropped}

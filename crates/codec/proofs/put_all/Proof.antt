@@ -1,4 +1,4 @@
--- `codec::put_all` meets its contract: the first k words are laid. Assumes nothing.
+-- `codec::put_all` meets its contract: the first k words are laid.
 use mathlib.Core.List.{map}
 use Prim.Native.Nat.{_-_, _≤_}
 use native.Mathlib.Omega.{arith}
@@ -20,14 +20,14 @@ abbrev μ-loop : tie.MeasureT-loop
 loop-holds : tie.Need-loop-holds Inv-loop μ-loop
 loop-holds c = (omega arith, none-yet _ _)
 
-mul-bits64 : tie.Need-mul-bits64 Inv-loop μ-loop
-mul-bits64 c = search needs
+mul-to-bits : tie.Need-mul-to-bits Inv-loop μ-loop
+mul-to-bits c = search needs
 
-shared-slice-read-bits64 : tie.Need-shared-slice-read-bits64 Inv-loop μ-loop
-shared-slice-read-bits64 c = search needs
+shared-slice-read-to-bits : tie.Need-shared-slice-read-to-bits Inv-loop μ-loop
+shared-slice-read-to-bits c = search needs
 
-bits64-requires : tie.Need-bits64-requires Inv-loop μ-loop
-bits64-requires c κs = search needs
+to-bits-requires : tie.Need-to-bits-requires Inv-loop μ-loop
+to-bits-requires c κs = search needs
 
 store-requires : tie.Need-store-requires Inv-loop μ-loop
 store-requires c κs = search needs
@@ -39,7 +39,7 @@ loop-less : tie.Need-loop-less Inv-loop μ-loop
 loop-less c = omega arith
 
 loop-again : tie.Need-loop-again Inv-loop μ-loop
-loop-again c = (omega arith, floats-turn (toBits binary64) (c .before .before .before .before .before .before .before .before .before .before .args .v .now) (c .before .before .before .before .before .before .before .loop .inv .1) (c .before .before .before .before .before .before .loop-test .taken) (c .before .before .before .bits64 .ensures) (c .before .before .store .ensures))
+loop-again c = (omega arith, floats-turn (toBits binary64) (c .before .before .before .before .before .before .before .before .before .before .args .v .now) (c .before .before .before .before .before .before .before .loop .inv .1) (c .before .before .before .before .before .before .loop-test .taken) (c .before .before .before .to-bits .ensures) (c .before .before .store .ensures))
 
 same-length : tie.Need-same-length Inv-loop μ-loop
 same-length c = laid-length (c .before .loop .inv .1)
@@ -54,9 +54,9 @@ put-all-spec =
     Inv-loop
     μ-loop
     loop-holds
-    mul-bits64
-    shared-slice-read-bits64
-    bits64-requires
+    mul-to-bits
+    shared-slice-read-to-bits
+    to-bits-requires
     store-requires
     add-k
     loop-less

@@ -1,4 +1,4 @@
--- `codec::put_all32` meets its contract: the first k words are laid. Assumes nothing.
+-- `codec::put_all32` meets its contract: the first k words are laid.
 use mathlib.Core.List.{map}
 use Prim.Native.Nat.{_-_, _≤_}
 use native.Mathlib.Omega.{arith}
@@ -20,14 +20,17 @@ abbrev μ-loop : tie.MeasureT-loop
 loop-holds : tie.Need-loop-holds Inv-loop μ-loop
 loop-holds c = (omega arith, none-yet _ _)
 
-mul-bits32 : tie.Need-mul-bits32 Inv-loop μ-loop
-mul-bits32 c = search needs
+mul-to-bits32 : tie.Need-mul-to-bits32 Inv-loop μ-loop
+mul-to-bits32 c = search needs
 
-shared-slice-read-bits32 : tie.Need-shared-slice-read-bits32 Inv-loop μ-loop
-shared-slice-read-bits32 c = search needs
+shared-slice-read-to-bits32 : tie.Need-shared-slice-read-to-bits32 Inv-loop μ-loop
+shared-slice-read-to-bits32 c = search needs
 
-bits32-requires : tie.Need-bits32-requires Inv-loop μ-loop
-bits32-requires c κs = search needs
+to-bits32-requires : tie.Need-to-bits32-requires Inv-loop μ-loop
+to-bits32-requires c κs = search needs
+
+cast-store : tie.Need-cast-store Inv-loop μ-loop
+cast-store c = search needs
 
 store-requires : tie.Need-store-requires Inv-loop μ-loop
 store-requires c κs = search needs
@@ -39,7 +42,7 @@ loop-less : tie.Need-loop-less Inv-loop μ-loop
 loop-less c = omega arith
 
 loop-again : tie.Need-loop-again Inv-loop μ-loop
-loop-again c = (omega arith, floats-turn (toBits binary32) (c .before .before .before .before .before .before .before .before .before .before .args .v .now) (c .before .before .before .before .before .before .before .loop .inv .1) (c .before .before .before .before .before .before .loop-test .taken) (c .before .before .before .bits32 .ensures) (c .before .before .store .ensures))
+loop-again c = (omega arith, floats-turn (toBits binary32) (c .before .before .before .before .before .before .before .before .before .before .args .v .now) (c .before .before .before .before .before .before .before .loop .inv .1) (c .before .before .before .before .before .before .loop-test .taken) (c .before .before .before .to-bits32 .ensures) (c .before .before .store .ensures))
 
 same-length : tie.Need-same-length Inv-loop μ-loop
 same-length c = laid-length (c .before .loop .inv .1)
@@ -54,9 +57,10 @@ put-all32-spec =
     Inv-loop
     μ-loop
     loop-holds
-    mul-bits32
-    shared-slice-read-bits32
-    bits32-requires
+    mul-to-bits32
+    shared-slice-read-to-bits32
+    to-bits32-requires
+    cast-store
     store-requires
     add-k
     loop-less

@@ -1,4 +1,4 @@
--- `codec::put_flag` meets its contract. Assumes nothing.
+-- `codec::put_flag` meets its contract.
 use Rattle.codec.proofs.Places.{as-word}
 use borrow.Author.Needs.{needs}
 use Rattle.codec.proofs.put_flag.Statement.{statement}

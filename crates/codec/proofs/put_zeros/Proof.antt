@@ -1,4 +1,4 @@
--- `codec::put_zeros` meets its contract: the first k zeros are laid. Assumes nothing.
+-- `codec::put_zeros` meets its contract: the first k zeros are laid.
 use Prim.Native.Nat.{_-_, _≤_}
 use native.Mathlib.Omega.{arith}
 use lib.ListN.{take, replicate}

@@ -1,4 +1,4 @@
--- `codec::store` meets its contract. Assumes nothing.
+-- `codec::store` meets its contract.
 use mathlib.Core.Path.{sym}
 use native.Mathlib.Omega.{arith}
 use lib.Seq.{set-out}

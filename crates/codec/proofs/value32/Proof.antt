@@ -1,4 +1,4 @@
--- `codec::value32` meets its contract. Assumes nothing.
+-- `codec::value32` meets its contract.
 use mathlib.Core.Path.{_∙_, sym, ap}
 use lib.Ieee.{binary32}
 use Rattle.codec.specs.Fields.{numOf}

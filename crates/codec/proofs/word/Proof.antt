@@ -1,4 +1,4 @@
--- `codec::word` meets its contract. Assumes nothing.
+-- `codec::word` meets its contract.
 use mathlib.Core.Path.{sym}
 use Prim.Native.Nat.{_+_}
 use native.Mathlib.Omega.{arith}

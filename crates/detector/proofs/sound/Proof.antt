@@ -6,7 +6,7 @@ use mathlib.Core.List.{[], _∷_}
 use lib.Ieee.{Float}
 use borrow.Author.Needs.{needs}
 use mathlib.Core.Bool.{_&&_}
-use Rattle.level.specs.Finite.{allFinite}
+use Rattle.float.specs.AllFinite.{allFinite}
 use Rattle.detector.specs.Detector.{}
 use Rattle.detector.proofs.sound.Statement.{statement}
 use Rattle.detector.proofs.sound.Tie as tie

@@ -6,7 +6,7 @@ use mathlib.Core.List.{foldl}
 use lib.ListN.{length, drop}
 use lib.Ieee.{nan}
 use Rattle.sequence.proofs.Fold.{fold-turn, fold-end}
-use Rattle.level.specs.Bs1770.{_⊕_, zero64}
+use Rattle.float.specs.Arithmetic.{_⊕_, zero64}
 use Rattle.detector.specs.Modulation.{totalOf}
 use borrow.Author.Needs.{needs}
 use Rattle.detector.proofs.total.Statement.{statement}

@@ -1,4 +1,4 @@
--- `float::clamp` meets its contract. Assumes nothing.
+-- `float::clamp` meets its contract.
 use Rattle.float.specs.Choice.{clampOf}
 use Rattle.float.proofs.clamp.Statement.{statement}
 use Rattle.float.proofs.clamp.Tie as tie

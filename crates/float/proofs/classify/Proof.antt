@@ -1,4 +1,4 @@
--- `float::classify` meets its contract: the bits' three cases are the three kinds. Assumes nothing.
+-- `float::classify` meets its contract: the bits' three cases are the three kinds.
 use mathlib.Core.Path.{sym, ap, _∙_, subst}
 use lib.Dec.{T}
 use lib.Ieee.{binary64, fits}

@@ -1,4 +1,4 @@
--- `float::fields` meets its contract. Assumes nothing.
+-- `float::fields` meets its contract.
 use borrow.Author.Needs.{needs}
 use borrow.Author.Tests.{eq-eqb, ne-eqb}
 use Rattle.float.specs.Kind.{fieldParts}

@@ -1,4 +1,4 @@
--- `float::finite` meets its contract. Assumes nothing.
+-- `float::finite` meets its contract.
 use lib.Ieee.{binary64}
 use Rattle.float.proofs.Difference.{difference}
 use Rattle.float.proofs.finite.Statement.{statement}

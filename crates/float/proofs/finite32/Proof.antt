@@ -1,4 +1,4 @@
--- `float::finite32` meets its contract. Assumes nothing.
+-- `float::finite32` meets its contract.
 use lib.Ieee.{binary32}
 use Rattle.float.proofs.Difference.{difference}
 use Rattle.float.proofs.finite32.Statement.{statement}

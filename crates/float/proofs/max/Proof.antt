@@ -1,4 +1,4 @@
--- `float::max` meets its contract. Assumes nothing.
+-- `float::max` meets its contract.
 use Rattle.float.specs.Choice.{maxOf}
 use Rattle.float.proofs.max.Statement.{statement}
 use Rattle.float.proofs.max.Tie as tie

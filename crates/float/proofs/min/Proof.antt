@@ -1,4 +1,4 @@
--- `float::min` meets its contract. Assumes nothing.
+-- `float::min` meets its contract.
 use Rattle.float.specs.Choice.{minOf}
 use Rattle.float.proofs.min.Statement.{statement}
 use Rattle.float.proofs.min.Tie as tie

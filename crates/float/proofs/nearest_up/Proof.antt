@@ -1,4 +1,4 @@
--- `float::nearest_up` meets its contract. Assumes nothing.
+-- `float::nearest_up` meets its contract.
 use mathlib.Core.Path.{sym, subst}
 use native.Mathlib.Omega.{arith}
 use lib.Dec.{T}

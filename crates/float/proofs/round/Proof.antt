@@ -1,4 +1,4 @@
--- `float::round` meets its contract. Assumes nothing.
+-- `float::round` meets its contract.
 use mathlib.Core.Path.{sym, ap, _∙_, subst}
 use lib.Dec.{T}
 use lib.Ieee.{neg}

@@ -3,7 +3,7 @@ use mathlib.Core.Path.{sym, _∙_, ap}
 use borrow.Author.Needs.{needs}
 use Rattle.biquad.specs.declared.State.{State}
 use Rattle.biquad.specs.declared.Ticked.{Ticked}
-use Rattle.level.specs.Same.{sameState, holdsOf}
+use Rattle.level.specs.Rest.{sameState, holdsOf}
 use Rattle.level.proofs.holds.Statement.{statement}
 use Rattle.level.proofs.holds.Tie as tie
 

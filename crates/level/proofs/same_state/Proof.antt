@@ -2,7 +2,7 @@
 use mathlib.Core.Bool.{_&&_}
 use lib.Ieee.Fits.{and-l, and-r}
 use borrow.Author.Needs.{needs}
-use Rattle.level.specs.Same.{sameState}
+use Rattle.level.specs.Rest.{sameState}
 use Rattle.level.proofs.same_state.Statement.{statement}
 use Rattle.level.proofs.same_state.Tie as tie
 

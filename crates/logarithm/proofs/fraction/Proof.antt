@@ -1,4 +1,4 @@
--- `logarithm::fraction` meets its contract: the bits so far and those of what is left are all the bits. Assumes nothing.
+-- `logarithm::fraction` meets its contract: the bits so far and those of what is left are all the bits.
 use mathlib.Core.Path.{_≡_}
 use Prim.Native.Nat.{_≤_, _<_, _+_, _*_, _^_}
 use native.Mathlib.Omega.{arith}

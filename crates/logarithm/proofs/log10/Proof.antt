@@ -1,4 +1,4 @@
--- `logarithm::log10` meets its contract. Assumes nothing.
+-- `logarithm::log10` meets its contract.
 use mathlib.Core.Path.{ap}
 use lib.Ieee.{Float, binary64, mul}
 use borrow.Author.Needs.{needs}

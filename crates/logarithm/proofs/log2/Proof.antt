@@ -1,4 +1,4 @@
--- `logarithm::log2` meets its contract: each arm by the kind that it has found. Assumes nothing.
+-- `logarithm::log2` meets its contract: each arm by the kind that it has found.
 use mathlib.Core.Path.{_≡_, refl, sym, ap, _∙_, subst}
 use mathlib.Core.Bool.{Bool, true, cond}
 use lib.Dec.{T}

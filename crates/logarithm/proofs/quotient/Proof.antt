@@ -1,4 +1,4 @@
--- `logarithm::quotient` meets its contract: the whole number is exact as an f64, and the divisor has the sign of N. Assumes nothing.
+-- `logarithm::quotient` meets its contract: the whole number is exact as an f64, and the divisor has the sign of N.
 use mathlib.Core.Path.{sym, ap}
 use Prim.Native.Nat.{ℕ, _-_, _*_, _≤_, _^_}
 use native.Mathlib.Omega.{arith}

@@ -1,4 +1,4 @@
--- `logarithm::whole_log` meets its contract: the digits below the leading zeros are those of sig * 2 ^ exp. Assumes nothing.
+-- `logarithm::whole_log` meets its contract: the digits below the leading zeros are those of sig * 2 ^ exp.
 use mathlib.Core.Path.{sym, subst}
 use Prim.Native.Nat.{ℕ, _≤_, _<_, _^_}
 use native.Mathlib.Omega.{arith}

@@ -1,4 +1,4 @@
--- `narrow::narrow` meets its contract: the three kinds of f64 are the definition's three cases. Assumes nothing.
+-- `narrow::narrow` meets its contract: the three kinds of f64 are the definition's three cases.
 use mathlib.Core.Path.{_≡_, refl, sym, ap, _∙_, subst}
 use mathlib.Core.Bool.{Bool, true, false, cond}
 use Prim.Native.Nat.{ℕ, _+_, _*_, _^_, _≤_}

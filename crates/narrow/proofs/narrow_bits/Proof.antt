@@ -1,4 +1,4 @@
--- `narrow::narrow_bits` meets its contract, in each range of the exponent. Assumes nothing.
+-- `narrow::narrow_bits` meets its contract, in each range of the exponent.
 use native.Mathlib.Omega.{arith}
 use Rattle.narrow.proofs.Rounded.{kept-le, normal-bits, subnormal-bits, no-bits}
 use borrow.Author.Needs.{needs}

@@ -1,4 +1,4 @@
--- `narrow::nearest_shift` meets its contract. Assumes nothing.
+-- `narrow::nearest_shift` meets its contract.
 use mathlib.Core.Path.{_≡_, sym, ap, _∙_, subst}
 use Prim.Native.Nat.{ℕ, _+_, _-_, _*_, _/_, _%_, _^_, _≤_, _<_}
 use native.Mathlib.Omega.{arith}

@@ -1,4 +1,4 @@
--- `narrow::signed` meets its contract. Assumes nothing.
+-- `narrow::signed` meets its contract.
 use mathlib.Core.Path.{sym, ap, _∙_, subst}
 use mathlib.Core.Bool.{Bool, true, false, not, cond}
 use Prim.Native.Nat.{ℕ, _+_, _^_}

@@ -1,4 +1,4 @@
--- `power::all_roots` meets its contract: the code's table is the list of the definition. Assumes nothing.
+-- `power::all_roots` meets its contract: the code's table is the list of the definition.
 use mathlib.Core.Path.{refl}
 use Rattle.power.specs.Roots.{roots}
 use Rattle.power.proofs.all_roots.Statement.{statement}

@@ -1,4 +1,4 @@
--- `power::exp` meets its contract. Assumes nothing.
+-- `power::exp` meets its contract.
 use borrow.Author.Needs.{needs}
 use Rattle.power.specs.Power.{expOf}
 use Rattle.power.proofs.exp.Statement.{statement}

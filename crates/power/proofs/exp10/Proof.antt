@@ -1,4 +1,4 @@
--- `power::exp10` meets its contract. Assumes nothing.
+-- `power::exp10` meets its contract.
 use borrow.Author.Needs.{needs}
 use Rattle.power.specs.Power.{exp10Of}
 use Rattle.power.proofs.exp10.Statement.{statement}

@@ -1,4 +1,4 @@
--- `power::exp2` meets its contract: its arms are the cases of the definition. Assumes nothing.
+-- `power::exp2` meets its contract: its arms are the cases of the definition.
 use mathlib.Core.Path.{_≡_, sym, ap, _∙_, subst}
 use lib.Dec.{T}
 use lib.Ieee.{binary64, fits}

@@ -1,4 +1,4 @@
--- `power::exp60` meets its contract. Assumes nothing.
+-- `power::exp60` meets its contract.
 use borrow.Author.Needs.{needs}
 use Rattle.power.specs.Power.{exp60Of}
 use Rattle.power.proofs.exp60.Statement.{statement}

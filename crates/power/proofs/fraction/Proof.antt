@@ -1,4 +1,4 @@
--- `power::fraction` meets its contract: at each turn the rest of the roots, from here, comes to the same. Assumes nothing.
+-- `power::fraction` meets its contract: at each turn the rest of the roots, from here, comes to the same.
 use mathlib.Core.Path.{_≡_, refl, ap}
 use Prim.Native.Nat.{ℕ, _+_, _-_, _*_, _/_, _%_, _^_, _<_}
 use native.Mathlib.Omega.{arith}

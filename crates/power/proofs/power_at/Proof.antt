@@ -1,4 +1,4 @@
--- `power::power_at` meets its contract: its bits are those of the definition's value. Assumes nothing.
+-- `power::power_at` meets its contract: its bits are those of the definition's value.
 use mathlib.Core.Path.{_∙_}
 use Prim.Native.Nat.{_/_, _^_}
 use native.Mathlib.Omega.{arith}

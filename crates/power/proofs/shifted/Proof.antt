@@ -1,4 +1,4 @@
--- `power::shifted` meets its contract. Assumes nothing.
+-- `power::shifted` meets its contract.
 use borrow.Author.Needs.{needs}
 use Rattle.power.proofs.Floors.{none-left}
 use Rattle.power.proofs.shifted.Statement.{statement}

@@ -1,4 +1,4 @@
--- `power::steps` meets its contract: a shift of the digits, down above zero and up below it, is the floor. Assumes nothing.
+-- `power::steps` meets its contract: a shift of the digits, down above zero and up below it, is the floor.
 use mathlib.Core.Path.{_≡_, sym, ap, _∙_}
 use mathlib.Core.Bool.{Bool}
 use Prim.Native.Nat.{ℕ, _+_, _-_, _*_, _^_, _≤_, _<_}

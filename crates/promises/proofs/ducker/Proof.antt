@@ -1,4 +1,4 @@
--- `promises::ducker` meets its contract. Assumes nothing.
+-- `promises::ducker` meets its contract.
 use Rattle.promises.proofs.Hold.{ducker}
 use Rattle.promises.proofs.ducker.Statement.{statement}
 use Rattle.promises.proofs.ducker.Tie as tie

@@ -1,4 +1,4 @@
--- `promises::examples` meets its contract. Assumes nothing.
+-- `promises::examples` meets its contract.
 use Rattle.promises.proofs.Hold.{examples}
 use Rattle.promises.proofs.examples.Statement.{statement}
 use Rattle.promises.proofs.examples.Tie as tie

@@ -1,4 +1,4 @@
--- `promises::loudness` meets its contract. Assumes nothing.
+-- `promises::loudness` meets its contract.
 use Rattle.promises.proofs.Hold.{loudness}
 use Rattle.promises.proofs.loudness.Statement.{statement}
 use Rattle.promises.proofs.loudness.Tie as tie

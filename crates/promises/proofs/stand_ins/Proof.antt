@@ -1,4 +1,4 @@
--- `promises::stand_ins` meets its contract. Assumes nothing.
+-- `promises::stand_ins` meets its contract.
 use Rattle.promises.proofs.Hold.{stand-ins}
 use Rattle.promises.proofs.stand_ins.Statement.{statement}
 use Rattle.promises.proofs.stand_ins.Tie as tie

@@ -1,4 +1,4 @@
--- `promises::voice` meets its contract. Assumes nothing.
+-- `promises::voice` meets its contract.
 use Rattle.promises.proofs.Hold.{voice}
 use Rattle.promises.proofs.voice.Statement.{statement}
 use Rattle.promises.proofs.voice.Tie as tie

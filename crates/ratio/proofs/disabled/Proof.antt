@@ -1,4 +1,4 @@
--- `disabled` meets its contract: the code's operations are the definition's, with what the callees ensure. Assumes nothing.
+-- `disabled` meets its contract: the code's operations are the definition's, with what the callees ensure.
 use borrow.Author.Needs.{needs}
 use Rattle.ratio.specs.Frame.{disabledFrame}
 use Rattle.ratio.proofs.disabled.Statement.{statement}

@@ -1,4 +1,4 @@
--- `enabled` meets its contract: the code's operations are the definition's, with what the callees ensure. Assumes nothing.
+-- `enabled` meets its contract: the code's operations are the definition's, with what the callees ensure.
 use borrow.Author.Needs.{needs}
 use Rattle.ratio.specs.Frame.{enabledFrame}
 use Rattle.ratio.proofs.enabled.Statement.{statement}

@@ -1,4 +1,4 @@
--- `finite_shown` meets its contract: the code's operations are the definition's, with what the callees ensure. Assumes nothing.
+-- `finite_shown` meets its contract: the code's operations are the definition's, with what the callees ensure.
 use borrow.Author.Needs.{needs}
 use Rattle.ratio.specs.Finite.{finiteShown}
 use Rattle.ratio.proofs.finite_shown.Statement.{statement}

@@ -1,4 +1,4 @@
--- `frame` meets its contract: the code's operations are the definition's, with what the callees ensure. Assumes nothing.
+-- `frame` meets its contract: the code's operations are the definition's, with what the callees ensure.
 use borrow.Author.Needs.{needs}
 use Rattle.ratio.specs.Frame.{frameOf}
 use Rattle.ratio.proofs.frame.Statement.{statement}

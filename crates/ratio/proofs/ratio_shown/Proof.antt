@@ -1,4 +1,4 @@
--- `ratio_shown` meets its contract: the code's operations are the definition's, with what the callees ensure. Assumes nothing.
+-- `ratio_shown` meets its contract: the code's operations are the definition's, with what the callees ensure.
 use borrow.Author.Needs.{needs}
 use lib.Ieee.{ofBits, neg}
 use Rattle.ratio.specs.Status.{ratioShown}

@@ -1,4 +1,4 @@
--- `round` meets its contract: the code's operations are the definition's, with what the callees ensure. Assumes nothing.
+-- `round` meets its contract: the code's operations are the definition's, with what the callees ensure.
 use borrow.Author.Needs.{needs}
 use Rattle.ratio.specs.Status.{roundedOf}
 use Rattle.ratio.proofs.round.Statement.{statement}

@@ -1,4 +1,4 @@
--- `status` meets its contract: the code's operations are the definition's, with what the callees ensure. Assumes nothing.
+-- `status` meets its contract: the code's operations are the definition's, with what the callees ensure.
 use borrow.Author.Needs.{needs}
 use Rattle.ratio.specs.Status.{statusOf}
 use Rattle.ratio.proofs.status.Statement.{statement}

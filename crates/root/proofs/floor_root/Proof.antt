@@ -1,4 +1,4 @@
--- `root::floor_root` meets its contract. After i steps the root and what is beyond its square hold all digits of a * 4 ^ i but 54. Assumes nothing.
+-- `root::floor_root` meets its contract. After i steps the root and what is beyond its square hold all digits of a * 4 ^ i but 54.
 use mathlib.Core.Path.{_≡_, subst}
 use Prim.Native.Nat.{ℕ, _+_, _-_, _*_, _≤_}
 use native.Mathlib.Omega.{arith}

@@ -1,4 +1,4 @@
--- `root::is_near` meets its contract: the products fit, and where every test passes q is nearest. Assumes nothing.
+-- `root::is_near` meets its contract: the products fit, and where every test passes q is nearest.
 use Prim.Native.Nat.{_+_, _-_, _*_, _/_, _%_}
 use native.Mathlib.Omega.{arith}
 use Rattle.root.proofs.Checked.{near-of, product-le, never}

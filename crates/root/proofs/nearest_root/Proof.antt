@@ -1,4 +1,4 @@
--- `root::nearest_root` meets its contract: the guess is checked, and the fallback is nearest. Assumes nothing.
+-- `root::nearest_root` meets its contract: the guess is checked, and the fallback is nearest.
 use Prim.Native.Nat.{_+_, _*_, _/_, _^_}
 use native.Mathlib.Omega.{arith}
 use borrow.Author.Needs.{needs}

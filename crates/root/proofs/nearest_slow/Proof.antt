@@ -1,4 +1,4 @@
--- `root::nearest_slow` meets its contract: half of the cut root, to the nearest. Assumes nothing.
+-- `root::nearest_slow` meets its contract: half of the cut root, to the nearest.
 use Prim.Native.Nat.{_*_, _^_}
 use native.Mathlib.Omega.{arith}
 use Rattle.root.proofs.Squares.{root-below}

@@ -1,4 +1,4 @@
--- `root::root_of` meets its contract: the digits of the root go before its exponent. Assumes nothing.
+-- `root::root_of` meets its contract: the digits of the root go before its exponent.
 use mathlib.Core.Path.{_≡_, sym, ap, subst}
 use Prim.Native.Nat.{ℕ, _+_, _-_, _*_, _%_, _^_, _≤_, _<_}
 use native.Mathlib.Nat.{lt-of-lt-of-le}

@@ -1,4 +1,4 @@
--- `root::sqrt` meets its contract: by what the argument is. Assumes nothing.
+-- `root::sqrt` meets its contract: by what the argument is.
 use mathlib.Core.Path.{_≡_, refl, sym, _∙_, subst}
 use Prim.Native.Nat.{ℕ, _<_}
 use native.Mathlib.Omega.{arith}

@@ -1,4 +1,4 @@
--- `signals::impulse` meets its contract. Assumes nothing.
+-- `signals::impulse` meets its contract.
 use native.Mathlib.Omega.{arith}
 use borrow.Author.Needs.{needs}
 use borrow.Author.Tests.{eq-eqb, ne-eqb}

@@ -1,4 +1,4 @@
--- `signals::noise` meets its contract. Assumes nothing.
+-- `signals::noise` meets its contract.
 use mathlib.Core.Path.{sym}
 use native.Mathlib.Omega.{arith}
 use borrow.Author.Needs.{needs}

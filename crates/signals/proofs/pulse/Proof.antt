@@ -1,4 +1,4 @@
--- `signals::pulse` meets its contract. Assumes nothing.
+-- `signals::pulse` meets its contract.
 use Rattle.signals.proofs.Bounds.{share}
 use Prim.Native.Nat.{_%_}
 use native.Mathlib.Nat.{mod-lt}

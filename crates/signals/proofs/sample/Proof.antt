@@ -1,4 +1,4 @@
--- `signals::sample` meets its contract. Assumes nothing.
+-- `signals::sample` meets its contract.
 use mathlib.Core.Path.{sym}
 use native.Mathlib.Omega.{arith}
 use lib.Dec.{le→leb}

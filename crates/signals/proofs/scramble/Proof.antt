@@ -1,4 +1,4 @@
--- `signals::scramble` meets its contract. Assumes nothing.
+-- `signals::scramble` meets its contract.
 use Rattle.signals.proofs.Bounds.{product}
 use Prim.Native.Nat.{_+_, _*_, _%_}
 use mathlib.Core.Path.{refl}

@@ -1,4 +1,4 @@
--- `signals::seeded` meets its contract. Assumes nothing.
+-- `signals::seeded` meets its contract.
 use native.Mathlib.Omega.{arith}
 use borrow.Author.Tests.{eq-eqb, ne-eqb}
 use Rattle.signals.specs.Signals.{seedOf}

@@ -1,4 +1,4 @@
--- `signals::sine` meets its contract. Assumes nothing.
+-- `signals::sine` meets its contract.
 use Rattle.signals.proofs.Bounds.{product, sines-small}
 use Prim.Native.Nat.{_*_, _%_}
 use mathlib.Core.Path.{refl}

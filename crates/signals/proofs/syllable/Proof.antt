@@ -1,4 +1,4 @@
--- `signals::syllable` meets its contract. Assumes nothing.
+-- `signals::syllable` meets its contract.
 use native.Mathlib.Omega.{arith}
 use borrow.Author.Needs.{needs}
 use borrow.Author.Tests.{lt-ltb, le-ltb, le-leb, lt-leb}

@@ -1,4 +1,4 @@
--- `signals::value` meets its contract. Assumes nothing.
+-- `signals::value` meets its contract.
 use mathlib.Core.Path.{sym}
 use native.Mathlib.Omega.{arith}
 use borrow.Author.Needs.{needs}

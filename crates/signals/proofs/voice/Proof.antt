@@ -1,4 +1,4 @@
--- `signals::voice` meets its contract. Assumes nothing.
+-- `signals::voice` meets its contract.
 use Rattle.signals.proofs.Bounds.{product, share}
 use Prim.Native.Nat.{_*_, _/_, _%_, _≤_}
 use native.Mathlib.Nat.{mod-lt, mul-assoc}

@@ -1,4 +1,4 @@
--- `engine::required_reduction` meets its contract: the code's operations are the definition's. Assumes nothing.
+-- `engine::required_reduction` meets its contract: the code's operations are the definition's.
 use lib.Ieee.{ofBits, neg}
 use Rattle.comis.specs.Engine.{requiredReduction}
 use Rattle.comis.proofs.engine.required_reduction.Statement.{statement}

@@ -1,4 +1,4 @@
--- `envelope::coeff` meets its contract: the code's operations are the definition's, with what the callees ensure. Assumes nothing.
+-- `envelope::coeff` meets its contract: the code's operations are the definition's, with what the callees ensure.
 use borrow.Author.Needs.{needs}
 use Rattle.comis.specs.Envelope.{coeffOf}
 use Rattle.comis.proofs.envelope.coeff.Statement.{statement}

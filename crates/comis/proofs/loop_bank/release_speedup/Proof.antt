@@ -1,4 +1,4 @@
--- `loop_bank::release_speedup` meets its contract: the code's operations are the definition's. Assumes nothing.
+-- `loop_bank::release_speedup` meets its contract: the code's operations are the definition's.
 use borrow.Author.Needs.{needs}
 use Rattle.comis.specs.LoopBank.{releaseSpeedup}
 use Rattle.comis.proofs.loop_bank.release_speedup.Statement.{statement}

@@ -3,7 +3,7 @@ use mathlib.Core.Path.{_≡_, sym, _∙_, ap}
 use mathlib.Core.Bool.{Bool, _&&_}
 use lib.Ieee.Fits.{and-l, and-r}
 use borrow.Author.Needs.{needs}
-use Rattle.level.specs.Same.{sameOf}
+use Rattle.float.specs.Same.{sameOf}
 use Rattle.detector.specs.declared.Bands.{Bands}
 use Rattle.detector.specs.Filters.{stepOf, sameFilters, sameBands, stillOf}
 use Rattle.detector.proofs.Bands.still.Statement.{statement}

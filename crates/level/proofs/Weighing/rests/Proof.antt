@@ -4,7 +4,7 @@ use mathlib.Core.Path.{sym, subst, _∙_, ap}
 use lib.Dec.{T}
 use borrow.Author.Needs.{needs}
 use Rattle.biquad.specs.Sections.{kShelf}
-use Rattle.level.specs.Same.{holdsOf, restsOf}
+use Rattle.level.specs.Rest.{holdsOf, restsOf}
 use Rattle.level.proofs.Silence.{held-run}
 use Rattle.level.proofs.Weighing.rests.Statement.{statement}
 use Rattle.level.proofs.Weighing.rests.Tie as tie

@@ -25,8 +25,8 @@ f32-to-f64-with-nan-requires c κs = search needs
 tick-requires : tie.Need-tick-requires Inv-loop μ-loop
 tick-requires c κs = search needs
 
-bits64-requires : tie.Need-bits64-requires Inv-loop μ-loop
-bits64-requires c κs = search needs
+to-bits-requires : tie.Need-to-bits-requires Inv-loop μ-loop
+to-bits-requires c κs = search needs
 
 slice-aggregate-answer : tie.Need-slice-aggregate-answer Inv-loop μ-loop
 slice-aggregate-answer c = search needs
@@ -46,11 +46,11 @@ loop-less c = search needs
 loop-again : tie.Need-loop-again Inv-loop μ-loop
 loop-again c = search needs
 
-bits64-requires-2 : tie.Need-bits64-requires-2 Inv-loop μ-loop
-bits64-requires-2 c κs = search needs
+to-bits-requires-2 : tie.Need-to-bits-requires-2 Inv-loop μ-loop
+to-bits-requires-2 c κs = search needs
 
-bits64-requires-3 : tie.Need-bits64-requires-3 Inv-loop μ-loop
-bits64-requires-3 c κs = search needs
+to-bits-requires-3 : tie.Need-to-bits-requires-3 Inv-loop μ-loop
+to-bits-requires-3 c κs = search needs
 
 slice-aggregate-answer-2 : tie.Need-slice-aggregate-answer-2 Inv-loop μ-loop
 slice-aggregate-answer-2 c = search needs
@@ -72,15 +72,15 @@ play-spec =
     sample-requires
     f32-to-f64-with-nan-requires
     tick-requires
-    bits64-requires
+    to-bits-requires
     slice-aggregate-answer
     answer-requires
     returns
     add-i
     loop-less
     loop-again
-    bits64-requires-2
-    bits64-requires-3
+    to-bits-requires-2
+    to-bits-requires-3
     slice-aggregate-answer-2
     answer-requires-2
     returns-2)

@@ -1,4 +1,4 @@
--- `engine::AutomixEngineConfig::active_target_ratio_lu` meets its contract: the code's operations are the definition's. Assumes nothing.
+-- `engine::AutomixEngineConfig::active_target_ratio_lu` meets its contract: the code's operations are the definition's.
 use borrow.Author.Needs.{needs}
 use Rattle.comis.specs.Engine.{activeTarget}
 use Rattle.comis.proofs.engine.AutomixEngineConfig.active_target_ratio_lu.Statement.{statement}

@@ -1,4 +1,4 @@
--- `engine::AutomixEngineConfig::process_fast` meets its contract: the code's operations are the definition's, with what the callees ensure. Assumes nothing.
+-- `engine::AutomixEngineConfig::process_fast` meets its contract: the code's operations are the definition's, with what the callees ensure.
 use mathlib.Core.Path.{sym}
 use borrow.Author.Needs.{needs}
 use Rattle.comis.specs.Engine.{processFast}

@@ -1,4 +1,4 @@
--- `loop_bank::Loops::update_release` meets its contract: the code's operations are the definition's, with what the callees ensure. Assumes nothing.
+-- `loop_bank::Loops::update_release` meets its contract: the code's operations are the definition's, with what the callees ensure.
 use borrow.Author.Needs.{needs}
 use Rattle.comis.specs.LoopBank.{updateRelease, lessTrim}
 use Rattle.comis.proofs.loop_bank.Loops.update_release.Statement.{statement}
