@@ -18,12 +18,12 @@ ghost use Rattle.image.specs.Chain.{
 ghost use Rattle.image.specs.Image.{saveVerdict, savedIn, restoreOf};
 use chain::Chain;
 use chain::Changed;
-use settings::Settings;
 use chain::Verdict;
 use comis::loop_bank::Loops;
 use float::Lufs;
 use ratio::Duck;
 use refusal::Refusal;
+use settings::Settings;
 use vad::VadSettings;
 
 const EDITION: u64 = 1;
