@@ -42,7 +42,7 @@ freshDuck = record {
   enabled = true;
   «target_lu» = ofBits binary64 0x4014000000000000;
   «overvoice_lu» = ofBits binary64 0x402a000000000000;
-  «max_reduction_db» = ofBits binary64 0x4038000000000000;
+  «max_reduction_db» = record { 0 = ofBits binary64 0x4038000000000000 };
   speed = ofBits binary64 0x3ff0000000000000;
   «bed_voice» = true;
 }

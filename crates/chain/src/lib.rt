@@ -188,7 +188,7 @@ impl Ranges {
         let speed = self.speed;
         ratio_lu.outside(d.target_lu)
             | ratio_lu.outside(d.overvoice_lu)
-            | max_reduction_db.outside(d.max_reduction_db)
+            | max_reduction_db.outside(d.max_reduction_db.0)
             | speed.outside(d.speed)
     }
 
@@ -227,7 +227,7 @@ fn stored_duck(d: Duck) -> Duck
         enabled: d.enabled,
         target_lu: zeroed(d.target_lu),
         overvoice_lu: zeroed(d.overvoice_lu),
-        max_reduction_db: zeroed(d.max_reduction_db),
+        max_reduction_db: Db(zeroed(d.max_reduction_db.0)),
         speed: zeroed(d.speed),
         bed_voice: d.bed_voice,
     }
@@ -266,7 +266,7 @@ fn fresh_duck() -> Duck
         enabled: true,
         target_lu: 5.0,
         overvoice_lu: 13.0,
-        max_reduction_db: 24.0,
+        max_reduction_db: Db(24.0),
         speed: 1.0,
         bed_voice: true,
     }
@@ -360,9 +360,9 @@ impl Chain {
             key,
             bed,
             loops: Loops {
-                slow: 0.0,
-                mid: 0.0,
-                fast: 0.0,
+                slow: Db(0.0),
+                mid: Db(0.0),
+                fast: Db(0.0),
                 hold_remaining_seconds: 0.0,
             },
         }
