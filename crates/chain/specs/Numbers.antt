@@ -20,7 +20,7 @@ abbrev pub ofStrandSettings : VadSettings → List Float
 ofStrandSettings s = s .threshold ∷ s .«hold_ms» ∷ s .«gate_lufs» .0 ∷ []
 
 abbrev pub ofDuck : Duck → List Float
-ofDuck d = d .«target_lu» ∷ d .«overvoice_lu» ∷ d .«max_reduction_db» ∷ d .speed ∷ []
+ofDuck d = d .«target_lu» ∷ d .«overvoice_lu» ∷ d .«max_reduction_db» .0 ∷ d .speed ∷ []
 
 abbrev pub ofSettings : Settings → List Float
 ofSettings s = ofStrandSettings (s .key) ++ ofStrandSettings (s .bed) ++ ofDuck (s .duck)
@@ -47,7 +47,7 @@ abbrev pub ofStrand : Strand → List Float
 ofStrand t = ofLevel (t .level) ++ ofDetector (t .detector) ++ ofDecision (t .decision)
 
 abbrev pub ofLoops : Loops → List Float
-ofLoops l = l .slow ∷ l .mid ∷ l .fast ∷ l .«hold_remaining_seconds» ∷ []
+ofLoops l = l .slow .0 ∷ l .mid .0 ∷ l .fast .0 ∷ l .«hold_remaining_seconds» ∷ []
 
 unfoldable pub numbersOf : Chain → List Float
 numbersOf c = ofSettings (c .settings) ++ ofStrand (c .key) ++ ofStrand (c .bed) ++ ofLoops (c .loops)

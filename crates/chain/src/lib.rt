@@ -133,9 +133,9 @@ impl Chain {
             key,
             bed,
             loops: Loops {
-                slow: 0.0,
-                mid: 0.0,
-                fast: 0.0,
+                slow: Db(0.0),
+                mid: Db(0.0),
+                fast: Db(0.0),
                 hold_remaining_seconds: 0.0,
             },
         }

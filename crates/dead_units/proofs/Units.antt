@@ -78,7 +78,7 @@ forgets (es ▹ reset k) n = ap holding (reset-loops (chainAfter es) k) ∙ forg
 module _ (c : Chain) (key bed : List Float) where
   -- what is remembered, and the chain stays
   abbrev again : Step Chain Answered
-  again = gets (passed (answer (shown (answering (c .loops .slow))))) [] c
+  again = gets (passed (answer (shown (answering (c .loops .slow .0))))) [] c
 
   first-frame : remembers c ≡ false → repeating c (frame key bed) ≡ firstFrame c (port c (frame key bed) .seen .reply)
   first-frame h = ap (λ (b : Bool). cond b again (firstFrame c (port c (frame key bed) .seen .reply))) h
@@ -119,7 +119,7 @@ keeps (earlier {es} {e = e} p) a q = stays (chainAfter es) e (reductionOf a) (ke
 repeated : (c : Chain) (e : Event) (x : Float) (a : Answered) → Keeps c x → isFrame e ≡ true → repeating c e .seen .reply ≡ passed (answer a) → reductionOf a ≡ x
 repeated c (frame key bed) x a k s q =
     let p = ap (λ (s : Step Chain Answered). s .seen .reply) (later-frame c key bed x k) in
-    ap reductionOf (same-answer (sym q ∙ p)) ∙ ap (λ (l : Loops). l .slow) k
+    ap reductionOf (same-answer (sym q ∙ p)) ∙ ap (λ (l : Loops). l .slow .0) k
 repeated c (settings b) x a k s q = not-a-frame s
 repeated c (reset n) x a k s q = not-a-frame s
 

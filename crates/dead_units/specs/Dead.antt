@@ -9,7 +9,7 @@ use Rattle.demands.specs.Dead.{Fixed, Repeats, Invents, RefusesAll, always}
 use Rattle.float.specs.Arithmetic.{zero64, one64}
 use Rattle.vad.specs.Rust.{quiet}
 use Rattle.comis.specs.declared.loop_bank.Loops.{Loops}
-use Rattle.ratio.specs.Status.{db}
+use Rattle.comis.specs.LoopBank.{db}
 use Rattle.ratio.specs.Frame.{disabledStatus}
 use Rattle.chain.specs.declared.Chain.{Chain}
 use Rattle.chain.specs.declared.Answer.{Answer}
@@ -61,7 +61,7 @@ stuck x = always rules isFrame (shown (answering x)) port
 -- Works on the first frame that passes, and repeats its reduction; settings calls and resets as the port does them. It remembers the reduction
 -- in the place of the slow loop, and that it has one in the place of the hold.
 abbrev pub remembering : Float → Loops
-remembering x = record { slow = x; mid = zero64; fast = zero64; «hold_remaining_seconds» = one64 }
+remembering x = record { slow = db x; mid = db zero64; fast = db zero64; «hold_remaining_seconds» = one64 }
 
 abbrev pub remembers : Chain → Bool
 remembers c = lt zero64 (c .loops .«hold_remaining_seconds»)
@@ -80,7 +80,7 @@ firstFrame c r = gets r [] (remembered c r)
 
 abbrev pub repeating : Port rules (eventCalls rules)
 repeating c (frame key bed) =
-    cond (remembers c) (gets (passed (answer (shown (answering (c .loops .slow))))) [] c) (firstFrame c (port c (frame key bed) .seen .reply))
+    cond (remembers c) (gets (passed (answer (shown (answering (c .loops .slow .0))))) [] c) (firstFrame c (port c (frame key bed) .seen .reply))
 repeating c (settings a) = port c (settings a)
 repeating c (reset n) = port c (reset n)
 

@@ -21,7 +21,8 @@ use Rattle.float.specs.Arithmetic.{one64}
 use Rattle.ratio.specs.declared.Duck.{Duck}
 use Rattle.ratio.specs.declared.Inputs.{Inputs}
 use Rattle.ratio.specs.Lists.{DuckStored}
-use Rattle.ratio.specs.Status.{db, configOf}
+use Rattle.comis.specs.LoopBank.{db}
+use Rattle.ratio.specs.Status.{configOf}
 use Rattle.ratio.specs.Frame as frames
 use Rattle.ratio.specs.Rust as ratio
 use Rattle.ratio.proofs.Rust.{Holds, Same, frame-same}
@@ -53,7 +54,7 @@ unfolding ofBits
 duck-stored d v = record {
   target = (no-minus (imageRanges .«ratio_lu») (d .«target_lu») tt (v .«target_lu»), v .«target_lu» .number .1);
   overvoice = (no-minus (imageRanges .«ratio_lu») (d .«overvoice_lu») tt (v .«overvoice_lu»), v .«overvoice_lu» .number .1);
-  most = (no-minus (imageRanges .«max_reduction_db») (d .«max_reduction_db») tt (v .«max_reduction_db»), v .«max_reduction_db» .number .1);
+  most = (no-minus (imageRanges .«max_reduction_db») (d .«max_reduction_db» .0) tt (v .«max_reduction_db»), v .«max_reduction_db» .number .1);
   speed = (no-minus (imageRanges .speed) (d .speed) tt (v .speed), v .speed .number .1);
 }
 

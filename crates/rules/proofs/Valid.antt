@@ -45,14 +45,14 @@ module _ (r : Ranges) where
   duck-stored d h o =
       let target = outsideOf (r .«ratio_lu») (d .«target_lu») in
       let overvoice = outsideOf (r .«ratio_lu») (d .«overvoice_lu») in
-      let most = outsideOf (r .«max_reduction_db») (d .«max_reduction_db») in
+      let most = outsideOf (r .«max_reduction_db») (d .«max_reduction_db» .0) in
       let three = neither ((target || overvoice) || most) (outsideOf (r .speed) (d .speed)) o in
       let two = neither (target || overvoice) most (three .0) in
       let one = neither target overvoice (two .0) in
       record {
         «target_lu» = stored-valid (r .«ratio_lu») (d .«target_lu») (h .0) (one .0);
         «overvoice_lu» = stored-valid (r .«ratio_lu») (d .«overvoice_lu») (h .1) (one .1);
-        «max_reduction_db» = stored-valid (r .«max_reduction_db») (d .«max_reduction_db») (h .2) (two .1);
+        «max_reduction_db» = stored-valid (r .«max_reduction_db») (d .«max_reduction_db» .0) (h .2) (two .1);
         speed = stored-valid (r .speed) (d .speed) (h .3) (three .1);
       }
 

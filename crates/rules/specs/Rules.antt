@@ -34,7 +34,7 @@ HeldStrand s = T (fits binary64 (s .threshold)) × T (fits binary64 (s .«hold_m
 
 abbrev pub HeldDuck : Duck → Type 0
 HeldDuck d =
-    T (fits binary64 (d .«target_lu»)) × T (fits binary64 (d .«overvoice_lu»)) × T (fits binary64 (d .«max_reduction_db»)) × T (fits binary64 (d .speed))
+    T (fits binary64 (d .«target_lu»)) × T (fits binary64 (d .«overvoice_lu»)) × T (fits binary64 (d .«max_reduction_db» .0)) × T (fits binary64 (d .speed))
 
 pub record Asked : Type 0 where
   pub values : Settings

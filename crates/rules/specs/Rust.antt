@@ -8,7 +8,7 @@ use Rattle.level.specs.declared.Reading.{Reading}
 use Rattle.level.specs.Deque.{meterReading}
 use Rattle.vad.specs.Rust.{RustVad, newVad, rustReset, rustPush}
 use Rattle.ratio.specs.declared.Inputs.{Inputs}
-use Rattle.ratio.specs.Status.{db}
+use Rattle.comis.specs.LoopBank.{db}
 use Rattle.ratio.specs.Rust as ratio
 use Rattle.settings.specs.declared.Settings.{Settings}
 use Rattle.chain.specs.declared.Answer.{Answer}

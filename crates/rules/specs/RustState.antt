@@ -17,6 +17,7 @@ use Rattle.vad.specs.declared.Decision.{Decision}
 use Rattle.vad.specs.declared.Strand.{Strand}
 use Rattle.vad.specs.Rust.{RustVad}
 use Rattle.comis.specs.declared.loop_bank.Loops.{Loops}
+use Rattle.comis.specs.LoopBank.{db}
 use Rattle.comis.specs.Rust.{LoopBank}
 use Rattle.chain.specs.declared.Chain.{Chain}
 use Rattle.rules.specs.Rust.{RustChain}
@@ -62,7 +63,7 @@ abbrev pub strandStored : RustVad → Strand
 strandStored v = record { level = levelStored (v .level); detector = detectorStored (v .detector); decision = decisionStored v }
 
 abbrev pub loopsStored : LoopBank → Loops
-loopsStored b = record { slow = b .slow; mid = b .mid; fast = b .fast; «hold_remaining_seconds» = b .hold }
+loopsStored b = record { slow = db (b .slow); mid = db (b .mid); fast = db (b .fast); «hold_remaining_seconds» = b .hold }
 
 unfoldable pub stored : RustChain → Chain
 stored m = record { settings = m .settings; key = strandStored (m .key); bed = strandStored (m .bed); loops = loopsStored (m .ducker .engine .loops) }

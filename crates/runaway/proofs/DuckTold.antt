@@ -6,6 +6,7 @@ use lib.Dec.{T}
 use lib.Ieee.{Float, neg}
 use lib.Ieee.Fits.{and-i, and-l, and-r}
 use lib.Ieee.Scale as scale
+use Rattle.float.specs.declared.Db.{Db}
 use Rattle.float.specs.Choice.{clampOf}
 use Rattle.float.specs.Arithmetic.{_⊕_, _⊖_, zero64}
 use Rattle.float.specs.AllFinite.{allFinite}
@@ -16,12 +17,14 @@ use Rattle.comis.specs.declared.mix_state.MixState.the-variants.{ReleaseToUnity
 use Rattle.comis.specs.declared.loop_bank.Ballistics.{Ballistics}
 use Rattle.comis.specs.declared.loop_bank.LoopBankConfig.{LoopBankConfig}
 use Rattle.comis.specs.declared.loop_bank.Loops.{Loops}
+use Rattle.comis.specs.declared.loop_bank.Need.{Need}
+use Rattle.comis.specs.declared.loop_bank.Need.the-variants.{Nothing, Reduction}
 use Rattle.comis.specs.declared.loop_bank.Updated.{Updated}
 use Rattle.power.specs.Power.{expOf}
 use Rattle.comis.specs.declared.envelope.Coefficient.{Coefficient}
 use Rattle.comis.specs.MixState.{isDucking}
 use Rattle.comis.specs.Envelope.{timeConstant, gradual, exponent, coeffOf, processOf}
-use Rattle.comis.specs.LoopBank.{slowTimes, midTimes, fastTimes, scaledOf, stepOf, stepSlow, stepMid, updateSlowMid, duckGoal, fastGoal, updateFast, updateRelease, withHold, releaseHold}
+use Rattle.comis.specs.LoopBank.{db, slowTimes, midTimes, fastTimes, scaledOf, stepOf, stepSlow, stepMid, updateSlowMid, duckGoal, fastGoal, updateFast, updateRelease, withHold, releaseHold}
 use Rattle.comis.specs.Engine.{midAuthority, fastAuthority, loopConfig, tickIn, processTick, processFast}
 use Rattle.comis.proofs.Stretch.{remaining-finite}
 use Rattle.ratio.specs.declared.Duck.{Duck}
@@ -56,47 +59,47 @@ module _ (d : Duck) (state : MixState) where
   abbrev config : LoopBankConfig
   config = loopConfig (configOf d)
 
-  step-are : (l : Loops) (b : Ballistics) (value target : Float)
-      → stepOf l config state b value target frameSeconds .finite ≡ allFinite (byStep (scaledOf config b (l .«hold_remaining_seconds») state) value target)
+  step-are : (l : Loops) (b : Ballistics) (value target : Db)
+      → stepOf l config state b value target frameSeconds .finite ≡ allFinite (byStep (scaledOf config b (l .«hold_remaining_seconds») state) (value .0) (target .0))
   unfolding stepOf processOf
   step-are l b value target =
       let t = scaledOf config b (l .«hold_remaining_seconds») state in
-      coeff-are (timeConstant value target (t .«attack_seconds») (t .«release_seconds»))
+      coeff-are (timeConstant (value .0) (target .0) (t .«attack_seconds») (t .«release_seconds»))
 
   module _ (l before after : Loops) (hold : l .«hold_remaining_seconds» ≡ after .«hold_remaining_seconds») where
-    slow-are : l .slow ≡ before .slow → (need : Shown) → stepSlow l config state need frameSeconds .finite ≡ allFinite (slowStep before after d state need)
+    slow-are : l .slow ≡ before .slow → (need : Need) → stepSlow l config state need frameSeconds .finite ≡ allFinite (slowStep before after d state need)
     unfolding stepSlow
-    slow-are e shown.Silence = unfold allFinite in refl
-    slow-are e (shown.Level x) =
-        step-are l slowTimes (l .slow) (clampOf x zero64 (d .«max_reduction_db»))
-        ∙ (λ i. allFinite (byStep (scaledOf config slowTimes (hold i) state) (e i) (clampOf x zero64 (d .«max_reduction_db»))))
+    slow-are e Nothing = unfold allFinite in refl
+    slow-are e (Reduction x) =
+        step-are l slowTimes (l .slow) (db (clampOf (x .0) zero64 (d .«max_reduction_db» .0)))
+        ∙ (λ i. allFinite (byStep (scaledOf config slowTimes (hold i) state) (e i .0) (clampOf (x .0) zero64 (d .«max_reduction_db» .0))))
 
-    mid-are : l .mid ≡ before .mid → l .slow ≡ after .slow → (need : Shown) → stepMid l config state need frameSeconds .finite ≡ allFinite (midStep before after d state need)
+    mid-are : l .mid ≡ before .mid → l .slow ≡ after .slow → (need : Need) → stepMid l config state need frameSeconds .finite ≡ allFinite (midStep before after d state need)
     unfolding stepMid
-    mid-are e s shown.Silence = unfold allFinite in refl
-    mid-are e s (shown.Level x) =
-        step-are l midTimes (l .mid) (clampOf (x ⊖ l .slow) (neg midAuthority) midAuthority)
-        ∙ (λ i. allFinite (byStep (scaledOf config midTimes (hold i) state) (e i) (clampOf (x ⊖ s i) (neg midAuthority) midAuthority)))
+    mid-are e s Nothing = unfold allFinite in refl
+    mid-are e s (Reduction x) =
+        step-are l midTimes (l .mid) (db (clampOf (x .0 ⊖ l .slow .0) (neg (midAuthority .0)) (midAuthority .0)))
+        ∙ (λ i. allFinite (byStep (scaledOf config midTimes (hold i) state) (e i .0) (clampOf (x .0 ⊖ s i .0) (neg (midAuthority .0)) (midAuthority .0))))
 
-    goal-are : isDucking state ≡ true → l .fast ≡ before .fast → l .slow ≡ after .slow → l .mid ≡ after .mid → (need : Shown)
+    goal-are : isDucking state ≡ true → l .fast ≡ before .fast → l .slow ≡ after .slow → l .mid ≡ after .mid → (need : Need)
         → updateFast l config state need frameSeconds .finite ≡ allFinite (fastStep before after d state need)
     unfolding updateFast fastGoal duckGoal
-    goal-are b e s m shown.Silence =
-        (λ i. stepOf l config state fastTimes (l .fast) (cond (b i) (l .fast) zero64) frameSeconds .finite)
+    goal-are b e s m Nothing =
+        (λ i. stepOf l config state fastTimes (l .fast) (cond (b i) (l .fast) (db zero64)) frameSeconds .finite)
         ∙ step-are l fastTimes (l .fast) (l .fast)
-        ∙ (λ i. allFinite (byStep (scaledOf config fastTimes (hold i) state) (e i) (e i)))
-    goal-are b e s m (shown.Level x) =
-        (λ i. stepOf l config state fastTimes (l .fast) (cond (b i) (clampOf (x ⊖ (l .slow ⊕ l .mid)) zero64 fastAuthority) zero64) frameSeconds .finite)
-        ∙ step-are l fastTimes (l .fast) (clampOf (x ⊖ (l .slow ⊕ l .mid)) zero64 fastAuthority)
-        ∙ (λ i. allFinite (byStep (scaledOf config fastTimes (hold i) state) (e i) (clampOf (x ⊖ (s i ⊕ m i)) zero64 fastAuthority)))
+        ∙ (λ i. allFinite (byStep (scaledOf config fastTimes (hold i) state) (e i .0) (e i .0)))
+    goal-are b e s m (Reduction x) =
+        (λ i. stepOf l config state fastTimes (l .fast) (cond (b i) (db (clampOf (x .0 ⊖ (l .slow .0 ⊕ l .mid .0)) zero64 (fastAuthority .0))) (db zero64)) frameSeconds .finite)
+        ∙ step-are l fastTimes (l .fast) (db (clampOf (x .0 ⊖ (l .slow .0 ⊕ l .mid .0)) zero64 (fastAuthority .0)))
+        ∙ (λ i. allFinite (byStep (scaledOf config fastTimes (hold i) state) (e i .0) (clampOf (x .0 ⊖ (s i .0 ⊕ m i .0)) zero64 (fastAuthority .0))))
 
-    unity-are : isDucking state ≡ false → l .fast ≡ before .fast → (need : Shown)
-        → updateFast l config state need frameSeconds .finite ≡ allFinite (byStep (scaledOf config fastTimes (after .«hold_remaining_seconds») state) (before .fast) zero64)
+    unity-are : isDucking state ≡ false → l .fast ≡ before .fast → (need : Need)
+        → updateFast l config state need frameSeconds .finite ≡ allFinite (byStep (scaledOf config fastTimes (after .«hold_remaining_seconds») state) (before .fast .0) zero64)
     unfolding updateFast fastGoal
     unity-are b e need =
-        (λ i. stepOf l config state fastTimes (l .fast) (cond (b i) (duckGoal l config need) zero64) frameSeconds .finite)
-        ∙ step-are l fastTimes (l .fast) zero64
-        ∙ (λ i. allFinite (byStep (scaledOf config fastTimes (hold i) state) (e i) zero64))
+        (λ i. stepOf l config state fastTimes (l .fast) (cond (b i) (duckGoal l config need) (db zero64)) frameSeconds .finite)
+        ∙ step-are l fastTimes (l .fast) (db zero64)
+        ∙ (λ i. allFinite (byStep (scaledOf config fastTimes (hold i) state) (e i .0) zero64))
 
   -- ---- the three of a frame
 
@@ -104,27 +107,27 @@ module _ (d : Duck) (state : MixState) where
     fast : m .fast ≡ l .fast
     hold : m .«hold_remaining_seconds» ≡ l .«hold_remaining_seconds»
 
-  slow-keeps : (l : Loops) (need : Shown) → (stepSlow l config state need frameSeconds .loops .mid ≡ l .mid) × Others l (stepSlow l config state need frameSeconds .loops)
+  slow-keeps : (l : Loops) (need : Need) → (stepSlow l config state need frameSeconds .loops .mid ≡ l .mid) × Others l (stepSlow l config state need frameSeconds .loops)
   unfolding stepSlow
-  slow-keeps l shown.Silence = (refl, record { fast = refl; hold = refl })
-  slow-keeps l (shown.Level x) = (refl, record { fast = refl; hold = refl })
+  slow-keeps l Nothing = (refl, record { fast = refl; hold = refl })
+  slow-keeps l (Reduction x) = (refl, record { fast = refl; hold = refl })
 
-  mid-keeps : (l : Loops) (need : Shown) → (stepMid l config state need frameSeconds .loops .slow ≡ l .slow) × Others l (stepMid l config state need frameSeconds .loops)
+  mid-keeps : (l : Loops) (need : Need) → (stepMid l config state need frameSeconds .loops .slow ≡ l .slow) × Others l (stepMid l config state need frameSeconds .loops)
   unfolding stepMid
-  mid-keeps l shown.Silence = (refl, record { fast = refl; hold = refl })
-  mid-keeps l (shown.Level x) = (refl, record { fast = refl; hold = refl })
+  mid-keeps l Nothing = (refl, record { fast = refl; hold = refl })
+  mid-keeps l (Reduction x) = (refl, record { fast = refl; hold = refl })
 
   module _ (l : Loops) where
-    abbrev duckTick : Shown → Shown → Updated
+    abbrev duckTick : Need → Need → Updated
     duckTick slow mid = updateSlowMid l config state slow mid frameSeconds
 
     abbrev releaseTick : Updated
     releaseTick = updateRelease l config state frameSeconds
 
-    abbrev fastAfter : Updated → Shown → Updated
+    abbrev fastAfter : Updated → Need → Updated
     fastAfter u need = updateFast (u .loops) config state need frameSeconds
 
-    ducking-are : isDucking state ≡ true → (slow mid fast : Shown)
+    ducking-are : isDucking state ≡ true → (slow mid fast : Need)
         → duckTick slow mid .finite && fastAfter (duckTick slow mid) fast .finite
         ≡ allFinite (slowStep l (fastAfter (duckTick slow mid) fast .loops) d state slow ++ midStep l (fastAfter (duckTick slow mid) fast .loops) d state mid ++ fastStep l (fastAfter (duckTick slow mid) fast .loops) d state fast)
     unfolding updateSlowMid updateFast
@@ -140,18 +143,18 @@ module _ (d : Duck) (state : MixState) where
         let r = goal-are m l after refl b (j .1 .fast ∙ k .1 .fast) refl refl fast in
         (λ i. (p i && q i) && r i) ∙ sym (three (slowStep l after d state slow) (midStep l after d state mid) (fastStep l after d state fast))
 
-    releasing-are : isDucking state ≡ false → (fast : Shown)
+    releasing-are : isDucking state ≡ false → (fast : Need)
         → releaseTick .finite && fastAfter releaseTick fast .finite ≡ allFinite (releasing l (fastAfter releaseTick fast .loops) d state)
     unfolding updateRelease updateFast
     releasing-are b fast =
         let u = releaseTick .loops in
         let after = updateFast u config state fast frameSeconds .loops in
         let held = withHold l (u .«hold_remaining_seconds») in
-        let p = step-are held midTimes (l .mid) zero64 in
-        let q = step-are held slowTimes (l .slow) zero64 in
+        let p = step-are held midTimes (l .mid) (db zero64) in
+        let q = step-are held slowTimes (l .slow) (db zero64) in
         let r = unity-are u l after refl b refl fast in
         let times : Ballistics → Ballistics = λ t. scaledOf config t (u .«hold_remaining_seconds») state in
-        (λ i. (p i && q i) && r i) ∙ sym (three (byStep (times midTimes) (l .mid) zero64) (byStep (times slowTimes) (l .slow) zero64) (byStep (times fastTimes) (l .fast) zero64))
+        (λ i. (p i && q i) && r i) ∙ sym (three (byStep (times midTimes) (l .mid .0) zero64) (byStep (times slowTimes) (l .slow .0) zero64) (byStep (times fastTimes) (l .fast .0) zero64))
 
 -- ---- an enabled frame
 
@@ -188,7 +191,7 @@ five true true true true true = refl
 
 loops-are : (l : Loops) → finiteLoops l ≡ allFinite (ofLoops l)
 unfolding finiteLoops allFinite
-loops-are l = five true (scale.finite (l .slow)) (scale.finite (l .mid)) (scale.finite (l .fast)) (scale.finite (l .«hold_remaining_seconds»))
+loops-are l = five true (scale.finite (l .slow .0)) (scale.finite (l .mid .0)) (scale.finite (l .fast .0)) (scale.finite (l .«hold_remaining_seconds»))
 
 shown-are : (s : Shown) → finiteShown s ≡ allFinite (ofShown s)
 unfolding finiteShown allFinite

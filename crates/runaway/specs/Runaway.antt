@@ -38,6 +38,8 @@ use Rattle.comis.specs.declared.mix_state.MixState.{MixState}
 use Rattle.comis.specs.declared.mix_state.MixState.the-variants.{ReleaseToUnity, DuckToTarget, InterviewPassthrough, DuckToOvervoice}
 use Rattle.comis.specs.declared.loop_bank.Ballistics.{Ballistics}
 use Rattle.comis.specs.declared.loop_bank.Loops.{Loops}
+use Rattle.comis.specs.declared.loop_bank.Need.{Need}
+use Rattle.comis.specs.declared.loop_bank.Need.the-variants.{Nothing, Reduction}
 use Rattle.comis.specs.MixState.{fromVad, isDucking}
 use Rattle.comis.specs.Envelope.{timeConstant, gradual, exponent}
 use Rattle.comis.specs.LoopBank.{slowTimes, midTimes, fastTimes, scaledOf, remainingOf}
@@ -133,20 +135,20 @@ module _ (before after : Loops) (d : Duck) (state : MixState) where
   timesOf b = scaledOf (loopConfig (configOf d)) b (after .«hold_remaining_seconds») state
 
   -- without a need slow and mid stay, and fast steps toward itself
-  abbrev pub slowStep : Shown → List Float
-  slowStep shown.Silence = []
-  slowStep (shown.Level need) = byStep (timesOf slowTimes) (before .slow) (clampOf need zero64 (d .«max_reduction_db»))
+  abbrev pub slowStep : Need → List Float
+  slowStep Nothing = []
+  slowStep (Reduction need) = byStep (timesOf slowTimes) (before .slow .0) (clampOf (need .0) zero64 (d .«max_reduction_db» .0))
 
-  abbrev pub midStep : Shown → List Float
-  midStep shown.Silence = []
-  midStep (shown.Level need) = byStep (timesOf midTimes) (before .mid) (clampOf (need ⊖ after .slow) (neg midAuthority) midAuthority)
+  abbrev pub midStep : Need → List Float
+  midStep Nothing = []
+  midStep (Reduction need) = byStep (timesOf midTimes) (before .mid .0) (clampOf (need .0 ⊖ after .slow .0) (neg (midAuthority .0)) (midAuthority .0))
 
-  abbrev pub fastStep : Shown → List Float
-  fastStep shown.Silence = byStep (timesOf fastTimes) (before .fast) (before .fast)
-  fastStep (shown.Level need) = byStep (timesOf fastTimes) (before .fast) (clampOf (need ⊖ (after .slow ⊕ after .mid)) zero64 fastAuthority)
+  abbrev pub fastStep : Need → List Float
+  fastStep Nothing = byStep (timesOf fastTimes) (before .fast .0) (before .fast .0)
+  fastStep (Reduction need) = byStep (timesOf fastTimes) (before .fast .0) (clampOf (need .0 ⊖ (after .slow .0 ⊕ after .mid .0)) zero64 (fastAuthority .0))
 
   -- what a reading of the bed needs
-  abbrev pub needOf : Lufs → Lufs → Shown
+  abbrev pub needOf : Lufs → Lufs → Need
   needOf bed dialogue = requiredReduction (activeTarget (configOf d) state) bed dialogue
 
   abbrev pub ducking : Inputs → List Float
@@ -157,7 +159,7 @@ module _ (before after : Loops) (d : Duck) (state : MixState) where
 
   abbrev pub releasing : List Float
   releasing =
-      byStep (timesOf midTimes) (before .mid) zero64 ++ byStep (timesOf slowTimes) (before .slow) zero64 ++ byStep (timesOf fastTimes) (before .fast) zero64
+      byStep (timesOf midTimes) (before .mid .0) zero64 ++ byStep (timesOf slowTimes) (before .slow .0) zero64 ++ byStep (timesOf fastTimes) (before .fast .0) zero64
 
   abbrev pub steps : Inputs → List Float
   steps i = cond (isDucking state) (ducking i) releasing ++ byStretch state (after .«hold_remaining_seconds»)

@@ -48,7 +48,7 @@ outsideStrand r s =
 unfoldable pub outsideDuck : Ranges → Duck → Bool
 outsideDuck r d =
     ((outsideOf (r .«ratio_lu») (d .«target_lu») || outsideOf (r .«ratio_lu») (d .«overvoice_lu»))
-    || outsideOf (r .«max_reduction_db») (d .«max_reduction_db»)) || outsideOf (r .speed) (d .speed)
+    || outsideOf (r .«max_reduction_db») (d .«max_reduction_db» .0)) || outsideOf (r .speed) (d .speed)
 
 unfoldable pub outsideSettings : Ranges → Settings → Bool
 outsideSettings r s = (outsideStrand r (s .key) || outsideStrand r (s .bed)) || outsideDuck r (s .duck)
@@ -70,7 +70,7 @@ storedDuck d = record {
   enabled = d .enabled;
   «target_lu» = zeroedOf (d .«target_lu»);
   «overvoice_lu» = zeroedOf (d .«overvoice_lu»);
-  «max_reduction_db» = zeroedOf (d .«max_reduction_db»);
+  «max_reduction_db» = record { 0 = zeroedOf (d .«max_reduction_db» .0) };
   speed = zeroedOf (d .speed);
   «bed_voice» = d .«bed_voice»;
 }
@@ -94,7 +94,7 @@ freshDuck = record {
   enabled = true;
   «target_lu» = ofBits binary64 0x4014000000000000;
   «overvoice_lu» = ofBits binary64 0x402a000000000000;
-  «max_reduction_db» = ofBits binary64 0x4038000000000000;
+  «max_reduction_db» = record { 0 = ofBits binary64 0x4038000000000000 };
   speed = ofBits binary64 0x3ff0000000000000;
   «bed_voice» = true;
 }

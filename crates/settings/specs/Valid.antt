@@ -23,7 +23,7 @@ pub record StrandSettingsValid (r : Ranges) (s : VadSettings) : Type 0 where
 pub record DuckValid (r : Ranges) (d : Duck) : Type 0 where
   pub «target_lu» : SettingValid (r .«ratio_lu») (d .«target_lu»)
   pub «overvoice_lu» : SettingValid (r .«ratio_lu») (d .«overvoice_lu»)
-  pub «max_reduction_db» : SettingValid (r .«max_reduction_db») (d .«max_reduction_db»)
+  pub «max_reduction_db» : SettingValid (r .«max_reduction_db») (d .«max_reduction_db» .0)
   pub speed : SettingValid (r .speed) (d .speed)
 
 pub record SettingsValid (r : Ranges) (s : Settings) : Type 0 where

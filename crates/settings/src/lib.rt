@@ -15,6 +15,7 @@ ghost use Rattle.settings.specs.Settings.{
   freshDuck,
   freshSettings,
 };
+use float::Db;
 use float::Lufs;
 use ratio::Duck;
 use vad::VadSettings;
@@ -120,7 +121,7 @@ impl Ranges {
     {
         self.ratio_lu.outside(d.target_lu)
             | self.ratio_lu.outside(d.overvoice_lu)
-            | self.max_reduction_db.outside(d.max_reduction_db)
+            | self.max_reduction_db.outside(d.max_reduction_db.0)
             | self.speed.outside(d.speed)
     }
 
@@ -156,7 +157,7 @@ fn stored_duck(d: Duck) -> Duck
         enabled: d.enabled,
         target_lu: zeroed(d.target_lu),
         overvoice_lu: zeroed(d.overvoice_lu),
-        max_reduction_db: zeroed(d.max_reduction_db),
+        max_reduction_db: Db(zeroed(d.max_reduction_db.0)),
         speed: zeroed(d.speed),
         bed_voice: d.bed_voice,
     }
@@ -192,7 +193,7 @@ fn fresh_duck() -> Duck
         enabled: true,
         target_lu: 5.0,
         overvoice_lu: 13.0,
-        max_reduction_db: 24.0,
+        max_reduction_db: Db(24.0),
         speed: 1.0,
         bed_voice: true,
     }

@@ -94,7 +94,7 @@ duckFrom w = record {
   enabled = flagAt w 6;
   «target_lu» = numberAt w 7;
   «overvoice_lu» = numberAt w 8;
-  «max_reduction_db» = numberAt w 9;
+  «max_reduction_db» = record { 0 = numberAt w 9 };
   speed = numberAt w 10;
   «bed_voice» = flagAt w 11;
 }

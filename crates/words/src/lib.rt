@@ -141,7 +141,7 @@ fn duck(w: &[u64; 12]) -> Duck
         enabled: w[6] != 0,
         target_lu: float::from_bits(w[7]),
         overvoice_lu: float::from_bits(w[8]),
-        max_reduction_db: float::from_bits(w[9]),
+        max_reduction_db: Db(float::from_bits(w[9])),
         speed: float::from_bits(w[10]),
         bed_voice: w[11] != 0,
     }

@@ -17,7 +17,7 @@ returns c =
     on-set _ _ _ (c .set .ensures)
     (told _ (key .0 .1), told _ (key .1 .0 .1), told _ (key .1 .1 .0 .1 .1 .0 .1))
     (told _ (bed .0 .1), told _ (bed .1 .0 .1), told _ (bed .1 .1 .0 .1 .1 .0 .1))
-    (told _ (duck .1 .0 .1), told _ (duck .1 .1 .0 .1), told _ (duck .1 .1 .1 .0 .1), told _ (duck .1 .1 .1 .1 .0 .1))
+    (told _ (duck .1 .0 .1), told _ (duck .1 .1 .0 .1), told _ (duck .1 .1 .1 .0 .1 .1 .0 .1), told _ (duck .1 .1 .1 .1 .0 .1))
 
 pub set-spec : {M : Type 1} → statement M
 set-spec = tie.close (tie.spec set-requires returns)
