@@ -1,3 +1,5 @@
+pub mod Kept
+pub mod Forms
 pub mod Accepted
 pub mod Numbers
 pub mod Places

@@ -1,4 +1,3 @@
 pub mod Fields
 pub mod Codec
-pub mod Kept
 pub mod Forms

@@ -1,3 +1,4 @@
+pub mod Codecs
 pub mod Runs
 pub mod Rules
 pub mod Valid

@@ -3,7 +3,7 @@ use mathlib.Core.Path.{_∙_, sym, ap}
 use lib.Ieee.{binary32}
 use Rattle.codec.specs.Fields.{numOf}
 use Rattle.codec.specs.Forms.{f32}
-use Rattle.codec.specs.Kept.{value-in, value-out}
+use Rattle.codec.proofs.Forms.{value-in, value-out}
 use borrow.Author.Needs.{needs}
 use Rattle.codec.proofs.value32.Statement.{statement}
 use Rattle.codec.proofs.value32.Tie as tie
