@@ -4,3 +4,4 @@ pub mod Accepted
 pub mod Numbers
 pub mod Places
 pub mod Again
+pub mod Runs

@@ -1,3 +1,4 @@
 pub mod Fields
+pub mod Run
 pub mod Codec
 pub mod Forms
