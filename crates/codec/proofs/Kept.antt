@@ -1,24 +1,20 @@
--- The laws that the codecs of `Forms` hold.
-use mathlib.Core.Path.{_≡_, refl, sym, ap, _∙_, subst}
+-- Laws of words that stand in a list, of rules, and of one value as a word: what is written is read back, and a good value is read.
+use mathlib.Core.Path.{_≡_, refl, sym, ap, _∙_}
 use mathlib.Core.Bool.{Bool, true, false, not, _&&_, cond}
-use mathlib.Core.Option.{Option, none, some}
-use mathlib.Core.List.{List, [], _∷_, _++_, map}
+use mathlib.Core.List.{List, _∷_, _++_}
 use Prim.Native.Nat.{ℕ, zero, suc, _+_, _*_, _/_, _%_, _^_, _≤_, _<_, suc-le-suc, zero-le}
 use native.Mathlib.Nat.{zero-add, add-zero}
 use native.Mathlib.Omega.{arith}
-use borrow.Author.Tests.{lt-ltb, le-ltb, ltb-true, ltb-false, eqb-true, eqb-false}
+use borrow.Author.Tests.{lt-ltb, le-ltb, ltb-true, eqb-true, eqb-false}
 use lib.Dec.{T, ltb, leb, eqb, lit<}
-use lib.ListN.{length, getD, length-append, length-map, List·getD-append, List·getD-eq-default}
-use lib.Seq.{ext-getD, getD-append-add}
+use lib.ListN.{length, getD, length-append, List·getD-append}
+use lib.Seq.{getD-append-add}
 use lib.Ieee.{Float, nan, inf, Format, binary32, binary64, prec, low, hid, ones, top, odd, ofFields, ofBits, toBits}
-use lib.Ieee.Bits.{ofBits-toBits, ofBits-fits, toBits-lt}
+use lib.Ieee.Bits.{is-true, ofBits-toBits, ofBits-fits, toBits-lt}
 use lib.Ieee.Scale.{finite}
 use Rattle.float.specs.Valid.{Num}
-use Rattle.sequence.specs.Counted.{Counted}
-use Rattle.blocks.specs.Lists.{table, Words}
-use Rattle.blocks.proofs.Lists.{length-table, getD-table, getD-map, below-nil, below-cons}
 use Rattle.codec.specs.Fields.{infinite, zeroOf, numOf, capped, flagBits, ruled}
-use Rattle.codec.specs.Codec.{Here, Cell, valueAt, maybeEnc, MaybeOk, maybeOf}
+use Rattle.codec.specs.Codec.{Here}
 
 -- ---- words that stand in a list
 
@@ -40,16 +36,12 @@ here-rest {l} {i} {n} xs ys e h = record {
 
 -- ---- rules
 
-pub T-true : (b : Bool) → T b → b ≡ true
-T-true true t = refl
-T-true false t = absurd t
-
 pub true-T : {b : Bool} → b ≡ true → T b
 true-T {b} e = rw e tt
 
 pub ruled-same : {A : Type 0} (p : A → Bool) (d a : A) → T (p a) → ruled p d a ≡ a
 unfolding ruled
-ruled-same p d a t = rw (T-true (p a) t)
+ruled-same p d a t = rw (is-true (p a) t)
 
 pub ruled-other : {A : Type 0} (p : A → Bool) (d a : A) → p a ≡ false → ruled p d a ≡ d
 unfolding ruled
@@ -136,7 +128,7 @@ pub numOf-back : (f : Format) (x : Float) → Num f x → numOf f (toBits f x) �
 unfolding numOf
 numOf-back f x h =
     let e : ofBits f (toBits f x) ≡ x = ofBits-toBits f x (h .1) in
-    let a : ltb (toBits f x % top f) (infinite f) ≡ true = sym (ofBits-finite f (toBits f x)) ∙ ap finite e ∙ T-true (finite x) (h .0) in
+    let a : ltb (toBits f x % top f) (infinite f) ≡ true = sym (ofBits-finite f (toBits f x)) ∙ ap finite e ∙ is-true (finite x) (h .0) in
     rw (a, lt-ltb (toBits f x) (2 * top f) (toBits-lt f x (h .1))) e
 
 -- whatever the word, a finite number is read
@@ -153,81 +145,3 @@ numOf-num f w = go (ltb (w % top f) (infinite f)) (ltb w (2 * top f)) refl
 pub bits-fit : (f : Format) (x : Float) → Num f x → toBits f x < 2 ^ 64
 bits-fit binary32 x h = omega (arith, toBits-lt binary32 x (h .1))
 bits-fit binary64 x h = omega (arith, toBits-lt binary64 x (h .1))
-
--- ---- a count, and that many values in n places
-
-module _ {A : Type 0} (c : Cell A) (l : List ℕ) (i m k : ℕ) where
-  pub value-in : k < m → valueAt c l i m k ≡ c .read (getD l (i + k) 0)
-  unfolding valueAt
-  value-in h = rw (lt-ltb k m h)
-
-  pub value-out : m ≤ k → valueAt c l i m k ≡ c .blank
-  unfolding valueAt
-  value-out h = rw (le-ltb k m h)
-
-module _ {A : Type 0} (c : Cell A) (n m : ℕ) where
-  counted-back : (xs : List A) (l : List ℕ) (i : ℕ) → Counted (c .Good) (c .blank) n m xs → Here l i (map (c .bits) xs) → table (valueAt c l i m) n ≡ xs
-  counted-back xs l i ok h =
-      ext-getD (c .blank) (table (valueAt c l i m) n) xs (length-table (valueAt c l i m) n ∙ sym (ok .size))
-      (λ k b. let kn : k < n = rw length-table at b in getD-table (valueAt c l i m) n k (c .blank) kn ∙ go k kn (ltb k m) refl)
-    where
-      go : (k : ℕ) → k < n → (t : Bool) → ltb k m ≡ t → valueAt c l i m k ≡ getD xs k (c .blank)
-      go k kn true e =
-          value-in c l i m k (ltb-true k m e)
-          ∙ ap (c .read) (h .at k (rw (length-map xs (c .bits), ok .size) kn) ∙ getD-map (c .bits) xs k (c .blank) (rw (ok .size) kn))
-          ∙ c .read-bits (getD xs k (c .blank)) (ok .good k (ltb-true k m e))
-      go k kn false e = value-out c l i m k (ltb-false k m e) ∙ sym (ok .rest k (ltb-false k m e))
-
-  pub counted-sound : (l : List ℕ) (i : ℕ) → m ≤ n → Counted (c .Good) (c .blank) n m (table (valueAt c l i m) n)
-  counted-sound l i h = record {
-    within = h;
-    size = length-table (valueAt c l i m) n;
-    good = λ k b. subst (c .Good) (sym (getD-table (valueAt c l i m) n k (c .blank) (omega arith) ∙ value-in c l i m k b)) (c .read-good (getD l (i + k) 0));
-    rest = λ k b. go k b (ltb k n) refl;
-  }
-    where
-      go : (k : ℕ) → m ≤ k → (t : Bool) → ltb k n ≡ t → getD (table (valueAt c l i m) n) k (c .blank) ≡ c .blank
-      go k b true e = getD-table (valueAt c l i m) n k (c .blank) (ltb-true k n e) ∙ value-out c l i m k b
-      go k b false e = List·getD-eq-default (table (valueAt c l i m) n) (c .blank) (rw length-table (ltb-false k n e))
-
-  pub counted-at : (xs : List A) (l : List ℕ) (i : ℕ) → Counted (c .Good) (c .blank) n m xs → Here l i (m ∷ map (c .bits) xs)
-      → _≡_ {A = ℕ × List A} (capped (suc n) (getD l i 0), table (valueAt c l (i + 1) (capped (suc n) (getD l i 0))) n) (m, xs)
-  counted-at xs l i ok h =
-      let e : capped (suc n) (getD l i 0) ≡ m = ap (capped (suc n)) (here-head h) ∙ capped-same (suc n) m (omega (arith, ok .within)) in
-      let g : Here l (i + 1) (map (c .bits) xs) = here-rest (m ∷ []) (map (c .bits) xs) refl h in
-      ap (λ (z : ℕ). (z, table (valueAt c l (i + 1) z) n)) e ∙ ap (λ (z : List A). (m, z)) (counted-back xs l (i + 1) ok g)
-
-  -- each place is good, the unused ones too
-  pub counted-all : (xs : List A) → Counted (c .Good) (c .blank) n m xs → (k : ℕ) → c .Good (getD xs k (c .blank))
-  counted-all xs ok k = go (ltb k m) refl
-    where
-      go : (b : Bool) → ltb k m ≡ b → c .Good (getD xs k (c .blank))
-      go true e = ok .good k (ltb-true k m e)
-      go false e = subst (c .Good) (sym (ok .rest k (ltb-false k m e))) (c .blank-good)
-
--- ---- a value or none
-
-module _ {A : Type 0} (c : Cell A) where
-  pub maybe-size : (a : Option A) → length (maybeEnc c a) ≡ 2
-  maybe-size none = refl
-  maybe-size (some x) = refl
-
-  two : (u v : ℕ) → u < 2 ^ 64 → v < 2 ^ 64 → Words (u ∷ v ∷ [])
-  two u v h g = below-cons (2 ^ 64) u (v ∷ []) h (below-cons (2 ^ 64) v [] g (below-nil (2 ^ 64) (lit< tt)))
-
-  pub maybe-small : (a : Option A) → MaybeOk c a → Words (maybeEnc c a)
-  maybe-small none ok = two 0 0 (lit< tt) (lit< tt)
-  maybe-small (some x) ok = two 1 (c .bits x) (lit< tt) (c .bits-small x ok)
-
-  pub maybe-back : (a : Option A) (l : List ℕ) (i : ℕ) → MaybeOk c a → Here l i (maybeEnc c a) → maybeOf c (getD l i 0) (getD l (i + 1) 0) ≡ a
-  unfolding maybeOf
-  maybe-back none l i ok h = rw (here-head h)
-  maybe-back (some x) l i ok h = rw (here-head h, here-head (here-rest (1 ∷ []) (c .bits x ∷ []) refl h)) (ap some (c .read-bits x ok))
-
-  pub maybe-sound : (u v : ℕ) → MaybeOk c (maybeOf c u v)
-  unfolding maybeOf
-  maybe-sound u v = go (eqb u 1)
-    where
-      go : (b : Bool) → MaybeOk c (cond b (some (c .read v)) none)
-      go true = c .read-good v
-      go false = tt

@@ -1,24 +1,29 @@
--- `codec::put_all32` meets its contract: the first k words are laid.
-use mathlib.Core.List.{map}
+-- `codec::put_list32` meets its contract: the count is laid, and the words of the first k numbers behind it.
+use mathlib.Core.Path.{_∙_}
 use Prim.Native.Nat.{_-_, _≤_}
 use native.Mathlib.Omega.{arith}
-use lib.ListN.{length, take}
+use lib.ListN.{length}
 use lib.Ieee.{binary32, toBits}
-use Rattle.blocks.specs.Lists.{Laid}
 use Rattle.blocks.proofs.Lists.{none-yet, laid-length}
-use Rattle.codec.proofs.Places.{floats-turn, floats-end}
+use Rattle.codec.proofs.Places.{Put, put-next, put-all}
 use borrow.Author.Needs.{needs}
-use Rattle.codec.proofs.put_all32.Statement.{statement}
-use Rattle.codec.proofs.put_all32.Tie as tie
+use Rattle.codec.proofs.put_list32.Statement.{statement}
+use Rattle.codec.proofs.put_list32.Tie as tie
 
 abbrev Inv-loop : tie.InvT-loop
-Inv-loop w₀ at v k₀ w k = (k ≤ length v) × Laid w₀ at (take k (map (toBits binary32) v)) w
+Inv-loop w₀ at count v k₀ w k = (k ≤ length v) × Put (toBits binary32) v w₀ at k w
 
 abbrev μ-loop : tie.MeasureT-loop
-μ-loop w₀ at v k₀ w k = length v - k
+μ-loop w₀ at count v k₀ w k = length v - k
+
+put-requires : tie.Need-put-requires Inv-loop μ-loop
+put-requires c κs = search needs
 
 loop-holds : tie.Need-loop-holds Inv-loop μ-loop
-loop-holds c = (omega arith, none-yet _ _)
+loop-holds c = (omega arith, record { over = none-yet _ _ })
+
+add-store : tie.Need-add-store Inv-loop μ-loop
+add-store c = search needs
 
 mul-to-bits32 : tie.Need-mul-to-bits32 Inv-loop μ-loop
 mul-to-bits32 c = search needs
@@ -42,21 +47,23 @@ loop-less : tie.Need-loop-less Inv-loop μ-loop
 loop-less c = omega arith
 
 loop-again : tie.Need-loop-again Inv-loop μ-loop
-loop-again c = (omega arith, floats-turn (toBits binary32) (c .before .before .before .before .before .before .before .before .before .before .args .v .now) (c .before .before .before .before .before .before .before .loop .inv .1) (c .before .before .before .before .before .before .loop-test .taken) (c .before .before .before .to-bits32 .ensures) (c .before .before .store .ensures))
+loop-again c = (omega arith, put-next (c .before .before .before .before .before .before .before .loop .inv .1) (c .before .before .before .before .before .before .loop-test .taken) (c .before .before .before .to-bits32 .ensures) (c .before .before .store .ensures))
 
 same-length : tie.Need-same-length Inv-loop μ-loop
-same-length c = laid-length (c .before .loop .inv .1)
+same-length c = laid-length (c .before .loop .inv .1 .over) ∙ laid-length (c .before .before .before .before .put .ensures)
 
 returns : tie.Need-returns Inv-loop μ-loop
-returns c = floats-end (toBits binary32) (c .before .before .before .before .args .v .now) (c .before .loop .inv .1) (c .loop-test .left)
+returns c = put-all (c .before .loop .inv .1) (c .before .before .before .before .put .ensures) (c .loop-test .left)
 
-pub put-all32-spec : {M : Type 1} → statement M
-put-all32-spec =
+pub put-list32-spec : {M : Type 1} → statement M
+put-list32-spec =
     tie.close
     (tie.spec
     Inv-loop
     μ-loop
+    put-requires
     loop-holds
+    add-store
     mul-to-bits32
     shared-slice-read-to-bits32
     to-bits32-requires
