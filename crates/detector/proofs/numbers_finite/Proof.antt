@@ -1,4 +1,4 @@
--- `sound` meets its contract.
+-- `numbers_finite` meets its contract.
 use Prim.Native.Nat.{_-_}
 use mathlib.Core.Path.{ap, ap₂, _∙_}
 use mathlib.Core.Bool.{Bool}
@@ -8,8 +8,8 @@ use borrow.Author.Needs.{needs}
 use mathlib.Core.Bool.{_&&_}
 use Rattle.float.specs.AllFinite.{allFinite}
 use Rattle.detector.specs.Detector.{}
-use Rattle.detector.proofs.sound.Statement.{statement}
-use Rattle.detector.proofs.sound.Tie as tie
+use Rattle.detector.proofs.numbers_finite.Statement.{statement}
+use Rattle.detector.proofs.numbers_finite.Tie as tie
 
 max-requires : tie.Need-max-requires
 max-requires c κs = search needs
@@ -42,5 +42,5 @@ returns c =
     (c .before .before .before .before .before .before .before .max .ensures) (c .before .before .before .before .before .before .max2 .ensures)))
     (ap (λ (x : Bool). x && a .voicing .finite) (c .before .all-finite32 .ensures))
 
-pub sound-spec : {M : Type 1} → statement M
-sound-spec = tie.close (tie.spec max-requires max-requires-2 all-finite-requires slice-aggregate-all-finite all-finite-requires-2 slice-aggregate-all-finite32 all-finite32-requires returns)
+pub numbers-finite-spec : {M : Type 1} → statement M
+numbers-finite-spec = tie.close (tie.spec max-requires max-requires-2 all-finite-requires slice-aggregate-all-finite all-finite-requires-2 slice-aggregate-all-finite32 all-finite32-requires returns)

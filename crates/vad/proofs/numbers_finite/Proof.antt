@@ -1,9 +1,9 @@
--- `sound` meets its contract.
+-- `numbers_finite` meets its contract.
 use mathlib.Core.Path.{sym}
 use borrow.Author.Needs.{needs}
 use Rattle.vad.specs.State.{}
-use Rattle.vad.proofs.sound.Statement.{statement}
-use Rattle.vad.proofs.sound.Tie as tie
+use Rattle.vad.proofs.numbers_finite.Statement.{statement}
+use Rattle.vad.proofs.numbers_finite.Tie as tie
 
 power-number-requires : tie.Need-power-number-requires
 power-number-requires c κs = search needs
@@ -29,5 +29,5 @@ returns c =
       sym (c .all-finite .ensures),
     )
 
-pub sound-spec : {M : Type 1} → statement M
-sound-spec = tie.close (tie.spec power-number-requires pick-requires level-number-requires slice-aggregate-all-finite all-finite-requires returns)
+pub numbers-finite-spec : {M : Type 1} → statement M
+numbers-finite-spec = tie.close (tie.spec power-number-requires pick-requires level-number-requires slice-aggregate-all-finite all-finite-requires returns)
