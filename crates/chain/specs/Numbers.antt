@@ -3,9 +3,9 @@ use mathlib.Core.List.{List, [], _∷_, _++_}
 use lib.Ieee.{Float}
 use Rattle.level.specs.declared.Level.{Level}
 use Rattle.detector.specs.declared.FeatureDetector.{FeatureDetector}
-use Rattle.detector.specs.declared.Smoothed.{Smoothed}
-use Rattle.detector.specs.declared.Smoothed.the-variants as smoothed
-use Rattle.detector.specs.Detector.{statesOf}
+use Rattle.detector.specs.declared.floor.Smoothed.{Smoothed}
+use Rattle.detector.specs.declared.floor.Smoothed.the-variants as smoothed
+use Rattle.detector.specs.Filters.{statesOf}
 use Rattle.vad.specs.declared.VadSettings.{VadSettings}
 use Rattle.vad.specs.declared.Decision.{Decision}
 use Rattle.vad.specs.declared.SpeechPower.{SpeechPower}
@@ -13,14 +13,14 @@ use Rattle.vad.specs.declared.SpeechPower.the-variants as speech
 use Rattle.vad.specs.declared.Strand.{Strand}
 use Rattle.comis.specs.declared.loop_bank.Loops.{Loops}
 use Rattle.ratio.specs.declared.Duck.{Duck}
-use Rattle.chain.specs.declared.Settings.{Settings}
+use Rattle.settings.specs.declared.Settings.{Settings}
 use Rattle.chain.specs.declared.Chain.{Chain}
 
 abbrev pub ofStrandSettings : VadSettings → List Float
 ofStrandSettings s = s .threshold ∷ s .«hold_ms» ∷ s .«gate_lufs» .0 ∷ []
 
 abbrev pub ofDuck : Duck → List Float
-ofDuck d = d .«target_lu» ∷ d .«overvoice_lu» ∷ d .«max_reduction_db» ∷ d .speed ∷ []
+ofDuck d = d .«target_lu» ∷ d .«overvoice_lu» ∷ d .«max_reduction_db» .0 ∷ d .speed ∷ []
 
 abbrev pub ofSettings : Settings → List Float
 ofSettings s = ofStrandSettings (s .key) ++ ofStrandSettings (s .bed) ++ ofDuck (s .duck)
@@ -47,7 +47,7 @@ abbrev pub ofStrand : Strand → List Float
 ofStrand t = ofLevel (t .level) ++ ofDetector (t .detector) ++ ofDecision (t .decision)
 
 abbrev pub ofLoops : Loops → List Float
-ofLoops l = l .slow ∷ l .mid ∷ l .fast ∷ l .«hold_remaining_seconds» ∷ []
+ofLoops l = l .slow .0 ∷ l .mid .0 ∷ l .fast .0 ∷ l .«hold_remaining_seconds» ∷ []
 
 unfoldable pub numbersOf : Chain → List Float
 numbersOf c = ofSettings (c .settings) ++ ofStrand (c .key) ++ ofStrand (c .bed) ++ ofLoops (c .loops)

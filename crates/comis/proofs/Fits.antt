@@ -5,13 +5,14 @@ use lib.Ieee.Fits.{add-fits, sub-fits, cond-fits}
 use lib.Ieee.Bits.{ofBits-fits}
 use Rattle.float.specs.Arithmetic.{zero64}
 use Rattle.float.specs.Choice.{maxOf}
-use Rattle.comis.specs.declared.Shown.{Shown}
-use Rattle.comis.specs.declared.Shown.the-variants.{Silence, Level}
+use Rattle.float.specs.declared.Db.{Db}
 use Rattle.comis.specs.declared.mix_state.MixState.{MixState}
 use Rattle.comis.specs.declared.mix_state.MixState.the-variants.{ReleaseToUnity, DuckToTarget, InterviewPassthrough, DuckToOvervoice}
 use Rattle.comis.specs.declared.loop_bank.Ballistics.{Ballistics}
 use Rattle.comis.specs.declared.loop_bank.LoopBankConfig.{LoopBankConfig}
 use Rattle.comis.specs.declared.loop_bank.Loops.{Loops}
+use Rattle.comis.specs.declared.loop_bank.Need.{Need}
+use Rattle.comis.specs.declared.loop_bank.Need.the-variants.{Nothing, Reduction}
 use Rattle.comis.specs.declared.engine.AutomixEngineConfig.{AutomixEngineConfig}
 use Rattle.comis.specs.declared.engine.LoudnessSnapshot.{LoudnessSnapshot}
 use Rattle.comis.specs.Envelope.{processOf}
@@ -23,26 +24,26 @@ max-fits : (x y : Float) → T (fits binary64 x) → T (fits binary64 y) → T (
 unfolding maxOf
 max-fits x y p q = cond-fits binary64 (lt x y) y x q p
 
-step-fits : (l : Loops) (config : LoopBankConfig) (state : MixState) (b : Ballistics) (value target dt : Float) → T (fits binary64 (stepOf l config state b value target dt .envelope .current))
+step-fits : (l : Loops) (config : LoopBankConfig) (state : MixState) (b : Ballistics) (value target : Db) (dt : Float) → T (fits binary64 (stepOf l config state b value target dt .envelope .current))
 unfolding stepOf processOf
-step-fits l config state b value target dt = add-fits binary64 target _
+step-fits l config state b value target dt = add-fits binary64 (target .0) _
 
-slow-fits : (l : Loops) (config : LoopBankConfig) (state : MixState) (need : Shown) (dt : Float) → LoopsFit l → LoopsFit (stepSlow l config state need dt .loops)
+slow-fits : (l : Loops) (config : LoopBankConfig) (state : MixState) (need : Need) (dt : Float) → LoopsFit l → LoopsFit (stepSlow l config state need dt .loops)
 unfolding stepSlow
-slow-fits l config state Silence dt h = h
-slow-fits l config state (Level x) dt h = record { slow = step-fits l config state _ _ _ dt; mid = h .mid; fast = h .fast; hold = h .hold }
+slow-fits l config state Nothing dt h = h
+slow-fits l config state (Reduction x) dt h = record { slow = step-fits l config state _ _ _ dt; mid = h .mid; fast = h .fast; hold = h .hold }
 
-mid-fits : (l : Loops) (config : LoopBankConfig) (state : MixState) (need : Shown) (dt : Float) → LoopsFit l → LoopsFit (stepMid l config state need dt .loops)
+mid-fits : (l : Loops) (config : LoopBankConfig) (state : MixState) (need : Need) (dt : Float) → LoopsFit l → LoopsFit (stepMid l config state need dt .loops)
 unfolding stepMid
-mid-fits l config state Silence dt h = h
-mid-fits l config state (Level x) dt h = record { slow = h .slow; mid = step-fits l config state _ _ _ dt; fast = h .fast; hold = h .hold }
+mid-fits l config state Nothing dt h = h
+mid-fits l config state (Reduction x) dt h = record { slow = h .slow; mid = step-fits l config state _ _ _ dt; fast = h .fast; hold = h .hold }
 
-pub slow-mid-fits : (l : Loops) (config : LoopBankConfig) (state : MixState) (slow mid : Shown) (dt : Float) → LoopsFit l → LoopsFit (updateSlowMid l config state slow mid dt .loops)
+pub slow-mid-fits : (l : Loops) (config : LoopBankConfig) (state : MixState) (slow mid : Need) (dt : Float) → LoopsFit l → LoopsFit (updateSlowMid l config state slow mid dt .loops)
 unfolding updateSlowMid
 slow-mid-fits l config state slow mid dt h =
     mid-fits _ config state mid dt (slow-fits _ config state slow dt (record { slow = h .slow; mid = h .mid; fast = h .fast; hold = ofBits-fits binary64 0x3fe999999999999a }))
 
-pub fast-fits : (l : Loops) (config : LoopBankConfig) (state : MixState) (need : Shown) (dt : Float) → LoopsFit l → LoopsFit (updateFast l config state need dt .loops)
+pub fast-fits : (l : Loops) (config : LoopBankConfig) (state : MixState) (need : Need) (dt : Float) → LoopsFit l → LoopsFit (updateFast l config state need dt .loops)
 unfolding updateFast
 fast-fits l config state need dt h = record { slow = h .slow; mid = h .mid; fast = step-fits l config state _ _ _ dt; hold = h .hold }
 

@@ -12,16 +12,17 @@ use lib.Ieee.Fits.{down-pos}
 use lib.Ieee.Scale.{finite, round-same}
 use Rattle.float.specs.Valid.{plus, NoMinus}
 use Rattle.float.specs.Arithmetic.{zero64}
+use Rattle.float.specs.declared.Db.{Db}
 use Rattle.float.proofs.Exact.{nil, and-nil}
 use Rattle.power.specs.Power.{expOf}
 use Rattle.power.proofs.Scaled.{exp-laws}
-use Rattle.comis.specs.declared.Shown.the-variants.{Silence}
 use Rattle.comis.specs.declared.mix_state.MixState.{MixState}
 use Rattle.comis.specs.declared.mix_state.MixState.the-variants.{ReleaseToUnity, DuckToTarget, InterviewPassthrough, DuckToOvervoice}
 use Rattle.comis.specs.declared.envelope.Coefficient.{Coefficient}
 use Rattle.comis.specs.declared.loop_bank.Ballistics.{Ballistics}
 use Rattle.comis.specs.declared.loop_bank.LoopBankConfig.{LoopBankConfig}
 use Rattle.comis.specs.declared.loop_bank.Loops.{Loops}
+use Rattle.comis.specs.declared.loop_bank.Need.the-variants.{Nothing}
 use Rattle.comis.specs.Envelope.{timeConstant, gradual, exponent, coeffOf, toward, processOf}
 use Rattle.comis.specs.MixState.{isDucking}
 use Rattle.comis.specs.LoopBank.{fastTimes, scaledOf, withFast, stepOf, duckGoal, fastGoal, updateFast}
@@ -85,14 +86,14 @@ coeff-finite tc dt = go (gradual tc dt)
 -- ---- fast
 
 -- a step from a value toward itself
-step-itself : (l : Loops) (c : LoopBankConfig) (s : MixState) (b : Ballistics) (x dt : Float) → NoMinus binary64 x → T (finite x) → T (stepOf l c s b x x dt .finite) → stepOf l c s b x x dt .envelope .current ≡ x
+step-itself : (l : Loops) (c : LoopBankConfig) (s : MixState) (b : Ballistics) (x : Db) (dt : Float) → NoMinus binary64 (x .0) → T (finite (x .0)) → T (stepOf l c s b x x dt .finite) → stepOf l c s b x x dt .envelope .current ≡ x .0
 unfolding stepOf processOf
 step-itself l c s b x dt p h t =
     let times = scaledOf c b (l .«hold_remaining_seconds») s in
-    let k = coeff-finite (timeConstant x x (times .«attack_seconds») (times .«release_seconds»)) dt t in
-    toward-itself x _ p h (k .0) (k .1)
+    let k = coeff-finite (timeConstant (x .0) (x .0) (times .«attack_seconds») (times .«release_seconds»)) dt t in
+    toward-itself (x .0) _ p h (k .0) (k .1)
 
-pub fast-stays : (l : Loops) (c : LoopBankConfig) (s : MixState) (dt : Float) → T (isDucking s) → NoMinus binary64 (l .fast) → T (finite (l .fast)) → T (updateFast l c s Silence dt .finite) → updateFast l c s Silence dt .loops ≡ l
+pub fast-stays : (l : Loops) (c : LoopBankConfig) (s : MixState) (dt : Float) → T (isDucking s) → NoMinus binary64 (l .fast .0) → T (finite (l .fast .0)) → T (updateFast l c s Nothing dt .finite) → updateFast l c s Nothing dt .loops ≡ l
 unfolding updateFast fastGoal duckGoal
 fast-stays l c ReleaseToUnity dt d p h t = absurd d
 fast-stays l c DuckToTarget dt d p h t = ap (withFast l) (step-itself l c DuckToTarget fastTimes (l .fast) dt p h t)

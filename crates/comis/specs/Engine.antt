@@ -2,32 +2,33 @@
 use mathlib.Core.Bool.{Bool, _||_, cond}
 use lib.Ieee.{Float, binary64, neg, le, ofBits}
 use Rattle.float.specs.Arithmetic.{_⊖_}
+use Rattle.float.specs.declared.Db.{Db}
 use Rattle.float.specs.declared.Lufs.{Lufs}
 use Rattle.float.specs.Silence.{silenceLufs}
-use Rattle.comis.specs.declared.Shown.{Shown}
-use Rattle.comis.specs.declared.Shown.the-variants.{Silence, Level}
 use Rattle.comis.specs.declared.mix_state.MixState.{MixState}
 use Rattle.comis.specs.declared.mix_state.MixState.the-variants.{ReleaseToUnity, DuckToTarget, InterviewPassthrough, DuckToOvervoice}
 use Rattle.comis.specs.declared.loop_bank.LoopBankConfig.{LoopBankConfig}
 use Rattle.comis.specs.declared.loop_bank.Loops.{Loops}
+use Rattle.comis.specs.declared.loop_bank.Need.{Need}
+use Rattle.comis.specs.declared.loop_bank.Need.the-variants.{Nothing, Reduction}
 use Rattle.comis.specs.declared.loop_bank.Updated.{Updated}
 use Rattle.comis.specs.declared.engine.AutomixEngineConfig.{AutomixEngineConfig}
 use Rattle.comis.specs.declared.engine.LoudnessSnapshot.{LoudnessSnapshot}
 use Rattle.comis.specs.declared.engine.AutomixResult.{AutomixResult}
 use Rattle.comis.specs.MixState.{fromVad, isDucking}
-use Rattle.comis.specs.LoopBank.{updateSlowMid, updateFast, updateRelease}
+use Rattle.comis.specs.LoopBank.{db, updateSlowMid, updateFast, updateRelease}
 
 -- 6 dB and 4 dB
-abbrev pub midAuthority : Float
-midAuthority = ofBits binary64 0x4018000000000000
+abbrev pub midAuthority : Db
+midAuthority = db (ofBits binary64 0x4018000000000000)
 
-abbrev pub fastAuthority : Float
-fastAuthority = ofBits binary64 0x4010000000000000
+abbrev pub fastAuthority : Db
+fastAuthority = db (ofBits binary64 0x4010000000000000)
 
--- target - (dialogue - bed)
-unfoldable pub requiredReduction : Float → Lufs → Lufs → Shown
+-- target - (dialogue - bed): LU, which are decibels of the bed
+unfoldable pub requiredReduction : Float → Lufs → Lufs → Need
 requiredReduction target bed dialogue =
-    cond (le (bed .0) silenceLufs || le (dialogue .0) silenceLufs) Silence (Level (target ⊖ (dialogue .0 ⊖ bed .0)))
+    cond (le (bed .0) silenceLufs || le (dialogue .0) silenceLufs) Nothing (Reduction (db (target ⊖ (dialogue .0 ⊖ bed .0))))
 
 unfoldable pub activeTarget : AutomixEngineConfig → MixState → Float
 activeTarget config ReleaseToUnity = config .«target_ratio_lu»

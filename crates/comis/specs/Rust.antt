@@ -1,21 +1,21 @@
 -- The Rust's envelope.rs, loop_bank.rs and engine.rs as they stand, to be read beside them: with `releasing`, `interview_release`,
 -- `release_speedup` and `previous_state`, which the Rust keeps from call to call. A `&mut self` is a record handed back. Definitions only.
--- `None` is `Silence` and `Some(x)` is `Level x`. Left out are DuckDepth, `com_gate_lufs` and `gain_linear`.
+-- A need `None` is `Nothing` and `Some(x)` is `Reduction` of x dB. Left out are DuckDepth, `com_gate_lufs` and `gain_linear`.
 use mathlib.Core.Bool.{Bool, true, false, not, _&&_, _||_, cond}
 use lib.Ieee.{Float, neg, lt, le}
 use lib.Ieee.Scale.{finite}
 use Rattle.float.specs.Arithmetic.{_⊕_, _⊖_, _⊗_, _⊘_, zero64, one64}
 use Rattle.float.specs.Choice.{maxOf, clampOf}
 use Rattle.power.specs.Power.{expOf, exp60Of}
-use Rattle.comis.specs.declared.Shown.{Shown}
-use Rattle.comis.specs.declared.Shown.the-variants.{Silence, Level}
 use Rattle.comis.specs.declared.mix_state.MixState.{MixState}
 use Rattle.comis.specs.declared.mix_state.MixState.the-variants.{ReleaseToUnity, DuckToTarget, InterviewPassthrough, DuckToOvervoice}
 use Rattle.comis.specs.declared.loop_bank.Ballistics.{Ballistics}
 use Rattle.comis.specs.declared.loop_bank.LoopBankConfig.{LoopBankConfig}
+use Rattle.comis.specs.declared.loop_bank.Need.{Need}
+use Rattle.comis.specs.declared.loop_bank.Need.the-variants.{Nothing, Reduction}
 use Rattle.comis.specs.declared.engine.AutomixEngineConfig.{AutomixEngineConfig}
 use Rattle.comis.specs.MixState.{fromVad, isDucking}
-use Rattle.comis.specs.LoopBank.{slowTimes, midTimes, fastTimes, releaseHold, interviewSpeedup, leastSpeed}
+use Rattle.comis.specs.LoopBank.{db, slowTimes, midTimes, fastTimes, releaseHold, interviewSpeedup, leastSpeed}
 use Rattle.comis.specs.Engine.{loopConfig}
 use Rattle.float.specs.Silence.{silenceLufs}
 
@@ -74,24 +74,24 @@ abbrev pub stage : LoopBank → Ballistics → Float → Float → Float → Flo
 stage b t value target dt = process value target (scaled b t .«attack_seconds») (scaled b t .«release_seconds») dt
 
 -- the two `if let` of update_slow_mid
-unfoldable pub slow-if : LoopBank → Shown → Float → LoopBank
-slow-if b Silence dt = b
-slow-if b (Level required) dt = set-slow b (stage b slowTimes (b .slow) (clampOf required zero64 (b .config .«max_gain_reduction_db»)) dt)
+unfoldable pub slow-if : LoopBank → Need → Float → LoopBank
+slow-if b Nothing dt = b
+slow-if b (Reduction required) dt = set-slow b (stage b slowTimes (b .slow) (clampOf (required .0) zero64 (b .config .«max_gain_reduction_db» .0)) dt)
 
-unfoldable pub mid-if : LoopBank → Shown → Float → LoopBank
-mid-if b Silence dt = b
-mid-if b (Level required) dt =
-    set-mid b (stage b midTimes (b .mid) (clampOf (required ⊖ b .slow) (neg (b .config .«mid_authority_db»)) (b .config .«mid_authority_db»)) dt)
+unfoldable pub mid-if : LoopBank → Need → Float → LoopBank
+mid-if b Nothing dt = b
+mid-if b (Reduction required) dt =
+    set-mid b (stage b midTimes (b .mid) (clampOf (required .0 ⊖ b .slow) (neg (b .config .«mid_authority_db» .0)) (b .config .«mid_authority_db» .0)) dt)
 
-unfoldable pub update-slow-mid : LoopBank → Shown → Shown → Float → LoopBank
+unfoldable pub update-slow-mid : LoopBank → Need → Need → Float → LoopBank
 update-slow-mid b slow mid dt = mid-if (slow-if (bank (b .config) (b .slow) (b .mid) (b .fast) releaseHold false false one64) slow dt) mid dt
 
-unfoldable pub fast-target : Bool → LoopBank → Shown → Float
+unfoldable pub fast-target : Bool → LoopBank → Need → Float
 fast-target true b required = zero64
-fast-target false b Silence = b .fast
-fast-target false b (Level required) = clampOf (required ⊖ (b .slow ⊕ b .mid)) zero64 (b .config .«fast_authority_db»)
+fast-target false b Nothing = b .fast
+fast-target false b (Reduction required) = clampOf (required .0 ⊖ (b .slow ⊕ b .mid)) zero64 (b .config .«fast_authority_db» .0)
 
-unfoldable pub update-fast : LoopBank → Shown → Float → LoopBank
+unfoldable pub update-fast : LoopBank → Need → Float → LoopBank
 update-fast b required dt = set-fast b (stage b fastTimes (b .fast) (fast-target (b .releasing) b required) dt)
 
 -- mid at its own constant; then slow, less what a negative mid gave back
@@ -109,15 +109,15 @@ update-release b interview dt =
     release-stages (bank (b .config) (b .slow) (b .mid) (b .fast) hold true interview (cond interview interviewSpeedup one64)) dt
 
 abbrev pub total-reduction : LoopBank → Float
-total-reduction b = clampOf (b .slow ⊕ b .mid ⊕ b .fast) zero64 (b .config .«max_gain_reduction_db»)
+total-reduction b = clampOf (b .slow ⊕ b .mid ⊕ b .fast) zero64 (b .config .«max_gain_reduction_db» .0)
 
 abbrev pub reset-bank : LoopBank → LoopBank
 reset-bank b = new-bank (b .config)
 
 -- ---- engine.rs
 
-unfoldable pub required-reduction : Float → Float → Float → Shown
-required-reduction target bed dialogue = cond (le bed silenceLufs || le dialogue silenceLufs) Silence (Level (target ⊖ (dialogue ⊖ bed)))
+unfoldable pub required-reduction : Float → Float → Float → Need
+required-reduction target bed dialogue = cond (le bed silenceLufs || le dialogue silenceLufs) Nothing (Reduction (db (target ⊖ (dialogue ⊖ bed))))
 
 pub record AutomixEngine : Type 0 where
   pub config : AutomixEngineConfig
@@ -162,7 +162,7 @@ process-tick e bed-short-term bed-momentary dialogue key bed dt =
 -- `process_fast`; its answer is `total-reduction` of the loops
 unfoldable pub process-fast : AutomixEngine → Float → Float → Float → AutomixEngine
 process-fast e bed-fast dialogue dt =
-    let required = cond (isDucking (e .previous-state)) (required-reduction (target-in (e .config) (e .previous-state)) bed-fast dialogue) Silence in
+    let required = cond (isDucking (e .previous-state)) (required-reduction (target-in (e .config) (e .previous-state)) bed-fast dialogue) Nothing in
     record { config = e .config; loops = update-fast (e .loops) required dt; previous-state = e .previous-state }
 
 abbrev pub active-target-ratio : AutomixEngine → Float

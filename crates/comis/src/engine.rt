@@ -1,9 +1,10 @@
 // Decides what each loop needs, by the state, and has the loops go there.
-use super::Shown;
 use super::loop_bank::LoopBankConfig;
 use super::loop_bank::Loops;
+use super::loop_bank::Need;
 use super::loop_bank::Updated;
 use super::mix_state::MixState;
+use float::Db;
 use float::Lufs;
 use float::SILENCE_LUFS;
 ghost use mathlib.Core.Path.{_≡_};
@@ -14,7 +15,8 @@ pub struct AutomixEngineConfig {
     pub target_ratio_lu: f64,
     // The same while the bed speaks too, LU.
     pub overvoice_ratio_lu: f64,
-    pub max_gain_reduction_db: f64,
+    pub max_gain_reduction_db: Db,
+    // Scales every time constant: above 1 is faster.
     pub speed: f64,
 }
 
@@ -31,14 +33,14 @@ pub struct AutomixResult {
     pub updated: Updated,
 }
 
-// The reduction that puts the ratio on the target, dB; nothing where a reading is silence.
-pub fn required_reduction(target_ratio_lu: f64, bed_lufs: Lufs, dialogue_lufs: Lufs) -> Shown
+// The reduction, dB, that puts the ratio on the target, LU: a decibel less of the bed is one LU more of ratio. Nothing where a reading is silence.
+pub fn required_reduction(target_ratio_lu: f64, bed_lufs: Lufs, dialogue_lufs: Lufs) -> Need
     ensures { λ r. ⌜ r ≡ requiredReduction «target_ratio_lu» «bed_lufs» «dialogue_lufs» ⌝ }
 {
     if (bed_lufs.0 <= SILENCE_LUFS) | (dialogue_lufs.0 <= SILENCE_LUFS) {
-        return Shown::Silence;
+        return Need::Nothing;
     }
-    Shown::Level(target_ratio_lu - (dialogue_lufs.0 - bed_lufs.0))
+    Need::Reduction(Db(target_ratio_lu - (dialogue_lufs.0 - bed_lufs.0)))
 }
 
 impl AutomixEngineConfig {
@@ -54,15 +56,16 @@ impl AutomixEngineConfig {
         }
     }
 
-    // What the loops need of it.
+    // What the loops are set to. The two authorities are those of the Rust's `LoopBankConfig::default`.
     pub fn loop_config(self) -> LoopBankConfig
         ensures { λ r. ⌜ r ≡ loopConfig self ⌝ }
     {
+        let max_gain_reduction_db = self.max_gain_reduction_db;
         LoopBankConfig {
             speed: self.speed,
-            max_gain_reduction_db: self.max_gain_reduction_db,
-            mid_authority_db: 6.0,
-            fast_authority_db: 4.0,
+            max_gain_reduction_db,
+            mid_authority_db: Db(6.0),
+            fast_authority_db: Db(4.0),
         }
     }
 
@@ -81,11 +84,16 @@ impl AutomixEngineConfig {
         let config = self.loop_config();
         if state.is_ducking() {
             let target = self.active_target_ratio_lu(state);
-            let dialogue = loudness.dialogue_short_term_lufs;
-            let bed_slow = loudness.bed_short_term_lufs;
-            let bed_mid = loudness.bed_momentary_lufs;
-            let required_slow = required_reduction(target, bed_slow, dialogue);
-            let required_mid = required_reduction(target, bed_mid, dialogue);
+            let required_slow = required_reduction(
+                target,
+                loudness.bed_short_term_lufs,
+                loudness.dialogue_short_term_lufs,
+            );
+            let required_mid = required_reduction(
+                target,
+                loudness.bed_momentary_lufs,
+                loudness.dialogue_short_term_lufs,
+            );
             return AutomixResult {
                 state,
                 updated: loops.update_slow_mid(

@@ -9,7 +9,7 @@ pub mod mix_state;
 ghost use mathlib.Core.Path.{_≡_};
 ghost use Rattle.comis.specs.Shown.{shownFlag, shownValue};
 
-// A reading shown to the operator: silence or a level, LUFS or LU. Also what a loop needs, dB: nothing that could be worked out, or a reduction.
+// A reading shown to the operator: silence, or a level; LUFS for a loudness, LU for a ratio.
 pub enum Shown {
     Silence,
     Level(f64),

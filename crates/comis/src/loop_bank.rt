@@ -1,5 +1,4 @@
 // The three loops, whose reductions add in dB: slow states the answer, mid trims it by up to 6 dB either way, fast adds up to 4 dB.
-use super::Shown;
 use super::envelope::EnvelopeDetector;
 use super::envelope::Stepped;
 use super::mix_state::MixState;
@@ -37,19 +36,26 @@ const INTERVIEW_RELEASE_SPEEDUP: f64 = 4.0;
 pub struct LoopBankConfig {
     // Scales every time constant: above 1 is faster.
     pub speed: f64,
-    pub max_gain_reduction_db: f64,
+    // The deepest reduction.
+    pub max_gain_reduction_db: Db,
     // How far mid may trim slow, either way.
-    pub mid_authority_db: f64,
+    pub mid_authority_db: Db,
     // How far fast may add to slow and mid.
-    pub fast_authority_db: f64,
+    pub fast_authority_db: Db,
 }
 
 // What a ducker keeps from frame to frame: the loops' reductions, dB, and what is left of the ease-in, seconds.
 pub struct Loops {
-    pub slow: f64,
-    pub mid: f64,
-    pub fast: f64,
+    pub slow: Db,
+    pub mid: Db,
+    pub fast: Db,
     pub hold_remaining_seconds: f64,
+}
+
+// What a loop needs: nothing, where a reading is silence, or a reduction, dB, which may be below 0.
+pub enum Need {
+    Nothing,
+    Reduction(Db),
 }
 
 // The loops after an update, and whether all that the update handed to a power was finite.
@@ -65,7 +71,8 @@ pub struct LoopContributions {
     pub total_db: Db,
 }
 
-// How much a release is stretched: 60 times where the hold is full, down to once where it is used up. Only a plain release is.
+// How much a release is stretched: 60 times (the Rust's HOLD_RELEASE_STRETCH) where the hold is full, once where it is used up. Only a plain
+// release is.
 fn release_stretch(hold_remaining_seconds: f64, state: MixState) -> f64
     ensures { λ r. ⌜ r ≡ releaseStretch «hold_remaining_seconds» state ⌝ }
 {
@@ -90,7 +97,7 @@ fn release_speedup(state: MixState) -> f64
     }
 }
 
-// A loop's time constants in this state, by the speed and what is left of the hold.
+// A loop's time constants in this state, by the speed, taken as 0.01 where it is less, and by what is left of the hold.
 fn scaled(
     config: LoopBankConfig,
     ballistics: Ballistics,
@@ -108,21 +115,21 @@ fn scaled(
 }
 
 impl Loops {
-    // A value one step nearer to its target, by a loop's time constants.
+    // A value one step nearer to its target, by a loop's time constants. The smoother holds it as a plain number, dB.
     fn step(
         self,
         config: LoopBankConfig,
         state: MixState,
         ballistics: Ballistics,
-        value: f64,
-        target: f64,
+        value: Db,
+        target: Db,
         dt_seconds: f64,
     ) -> Stepped
         ensures { λ r. ⌜ r ≡ stepOf self config state ballistics value target «dt_seconds» ⌝ }
     {
         let t = scaled(config, ballistics, self.hold_remaining_seconds, state);
-        let e = EnvelopeDetector { current: value };
-        e.process(target, t.attack_seconds, t.release_seconds, dt_seconds)
+        let e = EnvelopeDetector { current: value.0 };
+        e.process(target.0, t.attack_seconds, t.release_seconds, dt_seconds)
     }
 
     // Slow heads for its need, from 0 to the deepest reduction. Without a need it stays.
@@ -130,20 +137,20 @@ impl Loops {
         mut self,
         config: LoopBankConfig,
         state: MixState,
-        required: Shown,
+        required: Need,
         dt_seconds: f64,
     ) -> Updated
         ensures { λ r. ⌜ r ≡ stepSlow self config state required «dt_seconds» ⌝ }
     {
         match required {
-            Shown::Silence => Updated {
+            Need::Nothing => Updated {
                 loops: self,
                 finite: true,
             },
-            Shown::Level(need) => {
-                let target = float::clamp(need, 0.0, config.max_gain_reduction_db);
+            Need::Reduction(need) => {
+                let target = Db(float::clamp(need.0, 0.0, config.max_gain_reduction_db.0));
                 let s = self.step(config, state, SLOW, self.slow, target, dt_seconds);
-                self.slow = s.envelope.current;
+                self.slow.0 = s.envelope.current;
                 Updated {
                     loops: self,
                     finite: s.finite,
@@ -157,24 +164,21 @@ impl Loops {
         mut self,
         config: LoopBankConfig,
         state: MixState,
-        required: Shown,
+        required: Need,
         dt_seconds: f64,
     ) -> Updated
         ensures { λ r. ⌜ r ≡ stepMid self config state required «dt_seconds» ⌝ }
     {
         match required {
-            Shown::Silence => Updated {
+            Need::Nothing => Updated {
                 loops: self,
                 finite: true,
             },
-            Shown::Level(need) => {
-                let target = float::clamp(
-                    need - self.slow,
-                    -config.mid_authority_db,
-                    config.mid_authority_db,
-                );
+            Need::Reduction(need) => {
+                let most = config.mid_authority_db.0;
+                let target = Db(float::clamp(need.0 - self.slow.0, -most, most));
                 let m = self.step(config, state, MID, self.mid, target, dt_seconds);
-                self.mid = m.envelope.current;
+                self.mid.0 = m.envelope.current;
                 Updated {
                     loops: self,
                     finite: m.finite,
@@ -188,16 +192,15 @@ impl Loops {
         mut self,
         config: LoopBankConfig,
         state: MixState,
-        required_slow: Shown,
-        required_mid: Shown,
+        required_slow: Need,
+        required_mid: Need,
         dt_seconds: f64,
     ) -> Updated
         ensures { λ r. ⌜ r ≡ updateSlowMid self config state «required_slow» «required_mid» «dt_seconds» ⌝ }
     {
         self.hold_remaining_seconds = RELEASE_HOLD_SECONDS;
         let s = self.step_slow(config, state, required_slow, dt_seconds);
-        let l = s.loops;
-        let m = l.step_mid(config, state, required_mid, dt_seconds);
+        let m = s.loops.step_mid(config, state, required_mid, dt_seconds);
         let loops = m.loops;
         Updated {
             loops,
@@ -206,18 +209,20 @@ impl Loops {
     }
 
     // Where fast heads: for what its need is beside slow and mid, for its own value without a need, and for 0 in a release.
-    fn fast_goal(self, config: LoopBankConfig, state: MixState, required: Shown) -> f64
+    fn fast_goal(self, config: LoopBankConfig, state: MixState, required: Need) -> Db
         ensures { λ r. ⌜ r ≡ fastGoal self config state required ⌝ }
     {
         if state.is_ducking() {
             return match required {
-                Shown::Silence => self.fast,
-                Shown::Level(need) => {
-                    float::clamp(need - (self.slow + self.mid), 0.0, config.fast_authority_db)
-                }
+                Need::Nothing => self.fast,
+                Need::Reduction(need) => Db(float::clamp(
+                    need.0 - (self.slow.0 + self.mid.0),
+                    0.0,
+                    config.fast_authority_db.0,
+                )),
             };
         }
-        0.0
+        Db(0.0)
     }
 
     // Fast, after slow and mid.
@@ -225,14 +230,14 @@ impl Loops {
         mut self,
         config: LoopBankConfig,
         state: MixState,
-        required: Shown,
+        required: Need,
         dt_seconds: f64,
     ) -> Updated
         ensures { λ r. ⌜ r ≡ updateFast self config state required «dt_seconds» ⌝ }
     {
         let target = self.fast_goal(config, state, required);
         let f = self.step(config, state, FAST, self.fast, target, dt_seconds);
-        self.fast = f.envelope.current;
+        self.fast.0 = f.envelope.current;
         Updated {
             loops: self,
             finite: f.finite,
@@ -249,15 +254,16 @@ impl Loops {
         ensures { λ r. ⌜ r ≡ updateRelease self config state «dt_seconds» ⌝ }
     {
         self.hold_remaining_seconds = float::max(self.hold_remaining_seconds - dt_seconds, 0.0);
-        let m = self.step(config, state, MID, self.mid, 0.0, dt_seconds);
-        let returned_trim = float::max(m.envelope.current - self.mid, 0.0);
-        let s = self.step(config, state, SLOW, self.slow, 0.0, dt_seconds);
-        self.mid = m.envelope.current;
-        self.slow = float::pick(
+        let m = self.step(config, state, MID, self.mid, Db(0.0), dt_seconds);
+        let returned_trim = float::max(m.envelope.current - self.mid.0, 0.0);
+        let s = self.step(config, state, SLOW, self.slow, Db(0.0), dt_seconds);
+        self.mid.0 = m.envelope.current;
+        let slow = float::pick(
             returned_trim > 0.0,
             float::max(s.envelope.current - returned_trim, 0.0),
             s.envelope.current,
         );
+        self.slow.0 = slow;
         Updated {
             loops: self,
             finite: m.finite & s.finite,
@@ -268,14 +274,17 @@ impl Loops {
     pub fn contributions(self, config: LoopBankConfig) -> LoopContributions
         ensures { λ r. ⌜ r ≡ contributionsOf self config ⌝ }
     {
+        let slow_db = self.slow;
+        let mid_db = self.mid;
+        let fast_db = self.fast;
         LoopContributions {
-            slow_db: Db(self.slow),
-            mid_db: Db(self.mid),
-            fast_db: Db(self.fast),
+            slow_db,
+            mid_db,
+            fast_db,
             total_db: Db(float::clamp(
-                self.slow + self.mid + self.fast,
+                self.slow.0 + self.mid.0 + self.fast.0,
                 0.0,
-                config.max_gain_reduction_db,
+                config.max_gain_reduction_db.0,
             )),
         }
     }

@@ -9,8 +9,7 @@ use Rattle.blocks.proofs.Lists.{below-nil, below-cons, below-replicate}
 use Rattle.codec.specs.Codec.{CodecLaws}
 use Rattle.codec.specs.Forms.{fixed}
 use Rattle.codec.proofs.Forms.{f64-laws, flag-laws, one-laws, fixed-laws, pair-laws, as-a-laws, also-laws}
-use Rattle.chain.specs.Settings.{outsideOf, outsideStrand, outsideDuck, outsideSettings}
-use Rattle.chain.specs.Chain.{freshSettings}
+use Rattle.settings.specs.Settings.{outsideOf, outsideStrand, outsideDuck, outsideSettings, freshSettings}
 use Rattle.strand_image.proofs.Codecs.{strand-laws}
 use Rattle.image.specs.Layout.{edition, unusedWords}
 use Rattle.image.specs.Chain.{strandSettings, fromDuck, toDuck, duck, signedOf, signedStrand, signedDuck, signedSettings, settingsRule, numbers, settings, loops, chain}

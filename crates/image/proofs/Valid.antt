@@ -11,12 +11,13 @@ use Rattle.vad.specs.declared.VadSettings.{VadSettings}
 use Rattle.ratio.specs.declared.Duck.{Duck}
 use Rattle.comis.specs.declared.loop_bank.Loops.{Loops}
 use Rattle.comis.specs.Loops.{LoopsStored}
-use Rattle.chain.specs.declared.Settings.{Settings}
-use Rattle.chain.specs.declared.Range.{Range}
-use Rattle.chain.specs.declared.Ranges.{Ranges}
+use Rattle.settings.specs.declared.Settings.{Settings}
+use Rattle.settings.specs.declared.Range.{Range}
+use Rattle.settings.specs.declared.Ranges.{Ranges}
 use Rattle.chain.specs.declared.Chain.{Chain}
-use Rattle.chain.specs.Settings.{imageRanges, outsideOf, outsideStrand, outsideDuck, outsideSettings, zeroedOf}
-use Rattle.chain.specs.Valid.{SettingValid, StrandSettingsValid, DuckValid, SettingsValid, Valid}
+use Rattle.settings.specs.Settings.{imageRanges, outsideOf, outsideStrand, outsideDuck, outsideSettings, zeroedOf}
+use Rattle.chain.specs.Valid.{Valid}
+use Rattle.settings.specs.Valid.{SettingValid, StrandSettingsValid, DuckValid, SettingsValid}
 use Rattle.strand_image.proofs.Codecs.{zero-bits}
 use Rattle.strand_image.proofs.Valid.{strand-valid, valid-strand}
 use Rattle.image.specs.Chain.{strandSettings, duck, signedOf, signedStrand, signedDuck, signedSettings, numbers, settings, loops, chain}
@@ -91,16 +92,16 @@ module _ (r : Ranges) where
   duck-in : (s : Duck) → duck .Ok s → outsideDuck r s ≡ false → signedDuck s ≡ false → DuckValid r s
   unfolding duck outsideDuck signedDuck
   duck-in s ok o g =
-      let a = or-false ((outsideOf (r .«ratio_lu») (s .«target_lu») || outsideOf (r .«ratio_lu») (s .«overvoice_lu»)) || outsideOf (r .«max_reduction_db») (s .«max_reduction_db»)) (outsideOf (r .speed) (s .speed)) o in
-      let b = or-false (outsideOf (r .«ratio_lu») (s .«target_lu») || outsideOf (r .«ratio_lu») (s .«overvoice_lu»)) (outsideOf (r .«max_reduction_db») (s .«max_reduction_db»)) (a .0) in
+      let a = or-false ((outsideOf (r .«ratio_lu») (s .«target_lu») || outsideOf (r .«ratio_lu») (s .«overvoice_lu»)) || outsideOf (r .«max_reduction_db») (s .«max_reduction_db» .0)) (outsideOf (r .speed) (s .speed)) o in
+      let b = or-false (outsideOf (r .«ratio_lu») (s .«target_lu») || outsideOf (r .«ratio_lu») (s .«overvoice_lu»)) (outsideOf (r .«max_reduction_db») (s .«max_reduction_db» .0)) (a .0) in
       let c = or-false (outsideOf (r .«ratio_lu») (s .«target_lu»)) (outsideOf (r .«ratio_lu») (s .«overvoice_lu»)) (b .0) in
-      let d = or-false ((signedOf (s .«target_lu») || signedOf (s .«overvoice_lu»)) || signedOf (s .«max_reduction_db»)) (signedOf (s .speed)) g in
-      let e = or-false (signedOf (s .«target_lu») || signedOf (s .«overvoice_lu»)) (signedOf (s .«max_reduction_db»)) (d .0) in
+      let d = or-false ((signedOf (s .«target_lu») || signedOf (s .«overvoice_lu»)) || signedOf (s .«max_reduction_db» .0)) (signedOf (s .speed)) g in
+      let e = or-false (signedOf (s .«target_lu») || signedOf (s .«overvoice_lu»)) (signedOf (s .«max_reduction_db» .0)) (d .0) in
       let f = or-false (signedOf (s .«target_lu»)) (signedOf (s .«overvoice_lu»)) (e .0) in
       record {
         «target_lu» = setting-valid (r .«ratio_lu») (s .«target_lu») (ok .1 .0) (c .0) (f .0);
         «overvoice_lu» = setting-valid (r .«ratio_lu») (s .«overvoice_lu») (ok .1 .1 .0) (c .1) (f .1);
-        «max_reduction_db» = setting-valid (r .«max_reduction_db») (s .«max_reduction_db») (ok .1 .1 .1 .0) (b .1) (e .1);
+        «max_reduction_db» = setting-valid (r .«max_reduction_db») (s .«max_reduction_db» .0) (ok .1 .1 .1 .0) (b .1) (e .1);
         speed = setting-valid (r .speed) (s .speed) (ok .1 .1 .1 .1 .0) (a .1) (d .1);
       }
 
@@ -112,7 +113,7 @@ module _ (r : Ranges) where
     false-or
         (false-or
         (false-or (plain-stored (s .«target_lu») (v .«target_lu» .stored)) (plain-stored (s .«overvoice_lu») (v .«overvoice_lu» .stored)))
-        (plain-stored (s .«max_reduction_db») (v .«max_reduction_db» .stored)))
+        (plain-stored (s .«max_reduction_db» .0) (v .«max_reduction_db» .stored)))
         (plain-stored (s .speed) (v .speed .stored)),
   )
 

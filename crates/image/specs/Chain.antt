@@ -10,10 +10,10 @@ use Rattle.float.specs.Arithmetic.{zero64}
 use Rattle.vad.specs.declared.VadSettings.{VadSettings}
 use Rattle.ratio.specs.declared.Duck.{Duck}
 use Rattle.comis.specs.declared.loop_bank.Loops.{Loops}
-use Rattle.chain.specs.declared.Settings.{Settings}
+use Rattle.settings.specs.declared.Settings.{Settings}
 use Rattle.chain.specs.declared.Chain.{Chain}
-use Rattle.chain.specs.Settings.{imageRanges, outsideSettings}
-use Rattle.chain.specs.Chain.{freshSettings}
+use Rattle.settings.specs.Settings.{imageRanges, outsideSettings, freshSettings}
+use Rattle.comis.specs.LoopBank.{db}
 use Rattle.strand_image.specs.Strand.{strand}
 use Rattle.image.specs.Layout.{edition, unusedWords}
 
@@ -24,14 +24,14 @@ strandSettings = as-a (λ s. (s .threshold, (s .«hold_ms», s .«gate_lufs» .0
     (pair (one f64) (pair (one f64) (one f64)))
 
 abbrev pub fromDuck : Duck → Bool × (Float × (Float × (Float × (Float × Bool))))
-fromDuck s = (s .enabled, (s .«target_lu», (s .«overvoice_lu», (s .«max_reduction_db», (s .speed, s .«bed_voice»)))))
+fromDuck s = (s .enabled, (s .«target_lu», (s .«overvoice_lu», (s .«max_reduction_db» .0, (s .speed, s .«bed_voice»)))))
 
 abbrev pub toDuck : Bool × (Float × (Float × (Float × (Float × Bool)))) → Duck
 toDuck p = record {
   enabled = p .0;
   «target_lu» = p .1 .0;
   «overvoice_lu» = p .1 .1 .0;
-  «max_reduction_db» = p .1 .1 .1 .0;
+  «max_reduction_db» = db (p .1 .1 .1 .0);
   speed = p .1 .1 .1 .1 .0;
   «bed_voice» = p .1 .1 .1 .1 .1;
 }
@@ -47,7 +47,7 @@ unfoldable pub signedStrand : VadSettings → Bool
 signedStrand s = (signedOf (s .threshold) || signedOf (s .«hold_ms»)) || signedOf (s .«gate_lufs» .0)
 
 unfoldable pub signedDuck : Duck → Bool
-signedDuck d = ((signedOf (d .«target_lu») || signedOf (d .«overvoice_lu»)) || signedOf (d .«max_reduction_db»)) || signedOf (d .speed)
+signedDuck d = ((signedOf (d .«target_lu») || signedOf (d .«overvoice_lu»)) || signedOf (d .«max_reduction_db» .0)) || signedOf (d .speed)
 
 unfoldable pub signedSettings : Settings → Bool
 signedSettings s = (signedStrand (s .key) || signedStrand (s .bed)) || signedDuck (s .duck)
@@ -67,8 +67,8 @@ settings = also settingsRule freshSettings numbers
 -- ---- the ducker's loops
 
 unfoldable pub loops : Codec Loops
-loops = as-a (λ s. (s .slow, (s .mid, (s .fast, s .«hold_remaining_seconds»))))
-    (λ p. record { slow = p .0; mid = p .1 .0; fast = p .1 .1 .0; «hold_remaining_seconds» = p .1 .1 .1 })
+loops = as-a (λ s. (s .slow .0, (s .mid .0, (s .fast .0, s .«hold_remaining_seconds»))))
+    (λ p. record { slow = db (p .0); mid = db (p .1 .0); fast = db (p .1 .1 .0); «hold_remaining_seconds» = p .1 .1 .1 })
     (pair (one f64) (pair (one f64) (pair (one f64) (one f64))))
 
 -- ---- the chain: the edition, the settings, key strand, bed strand, loops, and the unused words

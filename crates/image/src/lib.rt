@@ -18,12 +18,13 @@ ghost use Rattle.image.specs.Chain.{
 ghost use Rattle.image.specs.Image.{saveVerdict, savedIn, restoreOf};
 use chain::Chain;
 use chain::Changed;
-use chain::Settings;
 use chain::Verdict;
 use comis::loop_bank::Loops;
+use float::Db;
 use float::Lufs;
 use ratio::Duck;
 use refusal::Refusal;
+use settings::Settings;
 use vad::VadSettings;
 
 const EDITION: u64 = 1;
@@ -65,7 +66,7 @@ fn put_duck(w: &mut [u64], at: usize, s: Duck)
     codec::put_flag(w, at, s.enabled);
     codec::put64(w, at + 1, s.target_lu);
     codec::put64(w, at + 2, s.overvoice_lu);
-    codec::put64(w, at + 3, s.max_reduction_db);
+    codec::put64(w, at + 3, s.max_reduction_db.0);
     codec::put64(w, at + 4, s.speed);
     codec::put_flag(w, at + 5, s.bed_voice);
 }
@@ -83,9 +84,9 @@ fn put_loops(w: &mut [u64], at: usize, s: Loops)
     requires { ⌜ at + 4 ≤ 2 ^ 64 ⌝ }
     ensures { λ _. ⌜ Run (now (w .entry)) at 4 (loops .enc s) (now (w .exit)) ⌝ }
 {
-    codec::put64(w, at, s.slow);
-    codec::put64(w, at + 1, s.mid);
-    codec::put64(w, at + 2, s.fast);
+    codec::put64(w, at, s.slow.0);
+    codec::put64(w, at + 1, s.mid.0);
+    codec::put64(w, at + 2, s.fast.0);
     codec::put64(w, at + 3, s.hold_remaining_seconds);
 }
 
@@ -130,7 +131,7 @@ fn get_duck(w: &[u64], at: usize) -> Duck
         enabled,
         target_lu,
         overvoice_lu,
-        max_reduction_db,
+        max_reduction_db: Db(max_reduction_db),
         speed,
         bed_voice,
     }
@@ -165,7 +166,7 @@ fn signed_strand(s: VadSettings) -> bool
 fn signed_duck(s: Duck) -> bool
     ensures { λ r. ⌜ r ≡ signedDuck s ⌝ }
 {
-    signed(s.target_lu) | signed(s.overvoice_lu) | signed(s.max_reduction_db) | signed(s.speed)
+    signed(s.target_lu) | signed(s.overvoice_lu) | signed(s.max_reduction_db.0) | signed(s.speed)
 }
 
 fn signed_settings(s: Settings) -> bool
@@ -198,9 +199,9 @@ fn get_loops(w: &[u64], at: usize) -> Loops
     let fast = codec::get64(w, at + 2);
     let hold_remaining_seconds = codec::get64(w, at + 3);
     Loops {
-        slow,
-        mid,
-        fast,
+        slow: Db(slow),
+        mid: Db(mid),
+        fast: Db(fast),
         hold_remaining_seconds,
     }
 }

@@ -57,18 +57,18 @@ told l d i h =
 abbrev Between : Framed → Float → Type 0
 Between f most = T (le zero64 (f .reduction .0)) × T (le (f .reduction .0) most)
 
-enabled-between : (l : Loops) (d : Duck) (i : Inputs) → T (le zero64 (d .«max_reduction_db»)) → T (enabledFrame l d i .finite) → Between (enabledFrame l d i) (d .«max_reduction_db»)
+enabled-between : (l : Loops) (d : Duck) (i : Inputs) → T (le zero64 (d .«max_reduction_db» .0)) → T (enabledFrame l d i .finite) → Between (enabledFrame l d i) (d .«max_reduction_db» .0)
 unfolding enabledFrame contributionsOf
-enabled-between l d i m h = clamp-between _ zero64 (d .«max_reduction_db») (clamped-number _ zero64 (d .«max_reduction_db») (told l d i h .reduction)) m
+enabled-between l d i m h = clamp-between _ zero64 (d .«max_reduction_db» .0) (clamped-number _ zero64 (d .«max_reduction_db» .0) (told l d i h .reduction)) m
 
-disabled-between : (d : Duck) → T (le zero64 (d .«max_reduction_db»)) → Between (disabledFrame d) (d .«max_reduction_db»)
+disabled-between : (d : Duck) → T (le zero64 (d .«max_reduction_db» .0)) → Between (disabledFrame d) (d .«max_reduction_db» .0)
 unfolding disabledFrame lt eq le ofBits
 disabled-between d m = (tt, m)
 
-pub reduction-bounds : (l : Loops) (d : Duck) (i : Inputs) → T (le zero64 (d .«max_reduction_db»)) → T (frameOf l d i .finite) → Between (frameOf l d i) (d .«max_reduction_db»)
+pub reduction-bounds : (l : Loops) (d : Duck) (i : Inputs) → T (le zero64 (d .«max_reduction_db» .0)) → T (frameOf l d i .finite) → Between (frameOf l d i) (d .«max_reduction_db» .0)
 unfolding frameOf
 reduction-bounds l d i m = go (d .enabled)
   where
-    go : (b : Bool) → T (cond b (enabledFrame l d i) (disabledFrame d) .finite) → Between (cond b (enabledFrame l d i) (disabledFrame d)) (d .«max_reduction_db»)
+    go : (b : Bool) → T (cond b (enabledFrame l d i) (disabledFrame d) .finite) → Between (cond b (enabledFrame l d i) (disabledFrame d)) (d .«max_reduction_db» .0)
     go true h = enabled-between l d i m h
     go false h = disabled-between d m

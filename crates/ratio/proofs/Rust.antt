@@ -12,7 +12,7 @@ use Rattle.comis.specs.declared.mix_state.MixState.the-variants.{ReleaseToUnity
 use Rattle.comis.specs.declared.loop_bank.Loops.{Loops}
 use Rattle.comis.specs.declared.engine.AutomixEngineConfig.{AutomixEngineConfig}
 use Rattle.comis.specs.MixState.{fromVad}
-use Rattle.comis.specs.LoopBank.{totalOf, contributionsOf}
+use Rattle.comis.specs.LoopBank.{db, totalOf, contributionsOf}
 use Rattle.float.specs.Arithmetic.{one64}
 use Rattle.comis.specs.Engine.{loopConfig, activeTarget, processTick}
 use Rattle.comis.specs.Rust.{LoopBank, AutomixEngine, set-config, reset, target-in, process-tick, process-fast, total-reduction}
@@ -21,7 +21,7 @@ use Rattle.ratio.specs.declared.Duck.{Duck}
 use Rattle.ratio.specs.declared.Inputs.{Inputs}
 use Rattle.ratio.specs.declared.RatioStatus.{RatioStatus}
 use Rattle.ratio.specs.declared.Framed.{Framed}
-use Rattle.ratio.specs.Status.{db, roundedOf, readingOf, ratioShown, configOf, statusOf}
+use Rattle.ratio.specs.Status.{roundedOf, readingOf, ratioShown, configOf, statusOf}
 use Rattle.ratio.specs.Frame.{frameSeconds, snapshotOf, tickOf, fastOf, zeroLoops, disabledFrame, enabledFrame, frameOf}
 use Rattle.ratio.specs.Lists.{answersOf, DuckStored, AllStored, none, more}
 use Rattle.ratio.specs.Rust as rust
@@ -32,7 +32,7 @@ use Rattle.ratio.proofs.Equal.{eq-plus}
 pub record RatioStored (r : rust.Ratio) : Type 0 where
   pub target : NoMinus binary64 (r .target)
   pub overvoice : NoMinus binary64 (r .overvoice)
-  pub most : NoMinus binary64 (r .most)
+  pub most : NoMinus binary64 (r .most .0)
   pub speed : NoMinus binary64 (r .speed)
 
 -- The Rust's state holds the loops l and the config c, which is that of its settings. What else its engine keeps may be anything.
@@ -53,7 +53,7 @@ unfolding rust.same
 config-same d r p q e =
     let a = eq (d .«target_lu») (r .target) in
     let b = eq (d .«overvoice_lu») (r .overvoice) in
-    let m = eq (d .«max_reduction_db») (r .most) in
+    let m = eq (d .«max_reduction_db» .0) (r .most .0) in
     let v = eq (d .speed) (r .speed) in
     let four = and-l (((a && b) && m) && v) (Bool·beq (d .«bed_voice») (r .bed-voice)) (subst T (sym e) tt) in
     let three = and-l ((a && b) && m) v four in
@@ -64,8 +64,9 @@ config-same d r p q e =
     (eq-plus binary64 _ _ (p .most) (q .most) (and-r (a && b) m three))
     (eq-plus binary64 _ _ (p .speed) (q .speed) (and-r ((a && b) && m) v four))
   where
-    made : d .«target_lu» ≡ r .target → d .«overvoice_lu» ≡ r .overvoice → d .«max_reduction_db» ≡ r .most → d .speed ≡ r .speed → configOf d ≡ rust.config r
-    made t o m v = cc
+    made : d .«target_lu» ≡ r .target → d .«overvoice_lu» ≡ r .overvoice → d .«max_reduction_db» .0 ≡ r .most .0 → d .speed ≡ r .speed → configOf d ≡ rust.config r
+    made t o m v =
+        λ k. record { «target_ratio_lu» = t k; «overvoice_ratio_lu» = o k; «max_gain_reduction_db» = db (m k); speed = v k }
 
 -- the settings taken over
 abbrev anew : rust.State → Duck → rust.State
@@ -128,9 +129,9 @@ shownAt l d i target =
     record {
       state = stateOf d i;
       «reduction_db» = db (roundedOf (total .0));
-      «slow_db» = db (roundedOf (l .slow));
-      «mid_db» = db (roundedOf (l .mid));
-      «fast_db» = db (roundedOf (l .fast));
+      «slow_db» = db (roundedOf (l .slow .0));
+      «mid_db» = db (roundedOf (l .mid .0));
+      «fast_db» = db (roundedOf (l .fast .0));
       «target_lu» = target;
       «ratio_lu» = ratioShown (i .«dialogue_short_term») (i .«bed_short_term») total;
       «dialogue_lufs» = readingOf (i .«dialogue_short_term»);
@@ -166,7 +167,7 @@ abbrev answerBy : AutomixEngine → Inputs → rust.Answer
 answerBy e i = record { reduction = total-reduction (e .loops); status = rust.shown e i }
 
 abbrev reducedBy : Loops → Duck → RatioStatus → rust.Answer
-reducedBy l d s = record { reduction = totalOf l (d .«max_reduction_db»); status = s }
+reducedBy l d s = record { reduction = totalOf l (d .«max_reduction_db») .0; status = s }
 
 on-same : (s : rust.State) (l : Loops) (d : Duck) (i : Inputs) → Holds (configOf d) s l → Same d (rust.on s d i) (enabledFrame l d i)
 unfolding rust.on enabledFrame processTick contributionsOf

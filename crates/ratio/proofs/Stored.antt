@@ -41,9 +41,9 @@ finite-loops l d i = go (d .enabled)
 both : (l : Loops) → T (finiteLoops l) → LoopsFit l → LoopsStored l
 unfolding finiteLoops
 both l h p =
-    let a = finite (l .slow) in
-    let b = finite (l .mid) in
-    let c = finite (l .fast) in
+    let a = finite (l .slow .0) in
+    let b = finite (l .mid .0) in
+    let c = finite (l .fast .0) in
     let three = and-l ((a && b) && c) (finite (l .«hold_remaining_seconds»)) h in
     let two = and-l (a && b) c three in
     record {

@@ -11,7 +11,7 @@ finiteShown Silence = true
 finiteShown (Level x) = finite x
 
 unfoldable pub finiteLoops : Loops → Bool
-finiteLoops l = ((finite (l .slow) && finite (l .mid)) && finite (l .fast)) && finite (l .«hold_remaining_seconds»)
+finiteLoops l = ((finite (l .slow .0) && finite (l .mid .0)) && finite (l .fast .0)) && finite (l .«hold_remaining_seconds»)
 
 unfoldable pub finiteStatus : RatioStatus → Bool
 finiteStatus s =

@@ -9,13 +9,13 @@ use Rattle.comis.specs.declared.loop_bank.Loops.{Loops}
 use Rattle.comis.specs.declared.loop_bank.Updated.{Updated}
 use Rattle.comis.specs.declared.engine.LoudnessSnapshot.{LoudnessSnapshot}
 use Rattle.comis.specs.declared.engine.AutomixResult.{AutomixResult}
-use Rattle.comis.specs.LoopBank.{contributionsOf}
+use Rattle.comis.specs.LoopBank.{db, contributionsOf}
 use Rattle.comis.specs.Engine.{loopConfig, processTick, processFast}
 use Rattle.ratio.specs.declared.Duck.{Duck}
 use Rattle.ratio.specs.declared.Inputs.{Inputs}
 use Rattle.ratio.specs.declared.RatioStatus.{RatioStatus}
 use Rattle.ratio.specs.declared.Framed.{Framed}
-use Rattle.ratio.specs.Status.{db, configOf, statusOf}
+use Rattle.ratio.specs.Status.{configOf, statusOf}
 use Rattle.ratio.specs.Finite.{finiteLoops, finiteStatus}
 
 -- 0.01 s
@@ -25,7 +25,7 @@ frameSeconds = ofBits binary64 0x3f847ae147ae147b
 -- ---- disabled
 
 abbrev pub zeroLoops : Loops
-zeroLoops = record { slow = zero64; mid = zero64; fast = zero64; «hold_remaining_seconds» = zero64 }
+zeroLoops = record { slow = db zero64; mid = db zero64; fast = db zero64; «hold_remaining_seconds» = zero64 }
 
 -- the plain target, and nothing else to show
 abbrev pub disabledStatus : Float → RatioStatus

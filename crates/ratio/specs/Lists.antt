@@ -17,7 +17,7 @@ answersOf l (c ∷ cs) =
 pub record DuckStored (d : Duck) : Type 0 where
   pub target : NoMinus binary64 (d .«target_lu»)
   pub overvoice : NoMinus binary64 (d .«overvoice_lu»)
-  pub most : NoMinus binary64 (d .«max_reduction_db»)
+  pub most : NoMinus binary64 (d .«max_reduction_db» .0)
   pub speed : NoMinus binary64 (d .speed)
 
 -- in every frame of a list

@@ -5,16 +5,17 @@ use mathlib.Core.Bool.{Bool, not, _&&_, Bool·beq, cond}
 use mathlib.Core.List.{List, [], _∷_}
 use lib.Ieee.{Float, binary64, lt, eq}
 use Rattle.float.specs.Whole.{roundOf}
+use Rattle.float.specs.declared.Db.{Db}
 use Rattle.float.specs.Arithmetic.{_⊕_, _⊖_, _⊗_, _⊘_, zero64, ten64, hundred64}
 use Rattle.comis.specs.declared.Shown.{Shown}
 use Rattle.comis.specs.declared.Shown.the-variants.{Silence, Level}
 use Rattle.comis.specs.declared.engine.AutomixEngineConfig.{AutomixEngineConfig}
 use Rattle.float.specs.Silence.{silenceLufs}
+use Rattle.comis.specs.LoopBank.{db}
 use Rattle.comis.specs.Rust.{AutomixEngine, new-engine, set-config, reset, process-tick, process-fast, total-reduction, active-target-ratio}
 use Rattle.ratio.specs.declared.Duck.{Duck}
 use Rattle.ratio.specs.declared.Inputs.{Inputs}
 use Rattle.ratio.specs.declared.RatioStatus.{RatioStatus}
-use Rattle.ratio.specs.Status.{db}
 use Rattle.ratio.specs.Frame.{frameSeconds, disabledStatus}
 
 unfoldable pub reading : Float → Shown
@@ -27,7 +28,7 @@ round x = roundOf binary64 (x ⊗ hundred64) ⊘ hundred64 ⊕ zero64
 pub record Ratio : Type 0 where
   pub target : Float  -- LU
   pub overvoice : Float  -- LU
-  pub most : Float  -- max_reduction_db
+  pub most : Db  -- max_reduction_db
   pub speed : Float
   pub bed-voice : Bool
 
@@ -36,7 +37,7 @@ ratio d = record { target = d .«target_lu»; overvoice = d .«overvoice_lu»; m
 
 -- `d.ratio == self.ratio`, field by field: 0 equals -0, and a NaN nothing
 unfoldable pub same : Ratio → Ratio → Bool
-same r q = (((eq (r .target) (q .target) && eq (r .overvoice) (q .overvoice)) && eq (r .most) (q .most)) && eq (r .speed) (q .speed)) && Bool·beq (r .bed-voice) (q .bed-voice)
+same r q = (((eq (r .target) (q .target) && eq (r .overvoice) (q .overvoice)) && eq (r .most .0) (q .most .0)) && eq (r .speed) (q .speed)) && Bool·beq (r .bed-voice) (q .bed-voice)
 
 abbrev pub config : Ratio → AutomixEngineConfig
 config r = record { «target_ratio_lu» = r .target; «overvoice_ratio_lu» = r .overvoice; «max_gain_reduction_db» = r .most; speed = r .speed }

@@ -10,6 +10,7 @@ use Rattle.comis.specs.declared.Shown.the-variants.{Silence, Level}
 use Rattle.comis.specs.declared.mix_state.MixState.{MixState}
 use Rattle.comis.specs.declared.loop_bank.LoopContributions.{LoopContributions}
 use Rattle.comis.specs.declared.engine.AutomixEngineConfig.{AutomixEngineConfig}
+use Rattle.comis.specs.LoopBank.{db}
 use Rattle.comis.specs.Engine.{activeTarget}
 use Rattle.float.specs.Silence.{silenceLufs}
 use Rattle.ratio.specs.declared.Duck.{Duck}
@@ -41,9 +42,6 @@ configOf d =
       «max_gain_reduction_db» = d .«max_reduction_db»;
       speed = d .speed;
     }
-
-abbrev pub db : Float → Db
-db x = record { 0 = x }
 
 unfoldable pub statusOf : AutomixEngineConfig → MixState → LoopContributions → Inputs → RatioStatus
 statusOf config s l i =

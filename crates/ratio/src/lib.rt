@@ -24,7 +24,8 @@ pub struct Duck {
     pub target_lu: f64,
     // The same while the bed speaks too, LU.
     pub overvoice_lu: f64,
-    pub max_reduction_db: f64,
+    // The deepest reduction.
+    pub max_reduction_db: Db,
     // Scales every time constant: above 1 is faster.
     pub speed: f64,
     // Whether the bed's speech counts.
@@ -95,10 +96,11 @@ fn ratio_shown(dialogue: Lufs, bed: Lufs, reduction: Db) -> Shown
 fn config(d: Duck) -> AutomixEngineConfig
     ensures { λ r. ⌜ r ≡ configOf d ⌝ }
 {
+    let max_gain_reduction_db = d.max_reduction_db;
     AutomixEngineConfig {
         target_ratio_lu: d.target_lu,
         overvoice_ratio_lu: d.overvoice_lu,
-        max_gain_reduction_db: d.max_reduction_db,
+        max_gain_reduction_db,
         speed: d.speed,
     }
 }
@@ -106,19 +108,16 @@ fn config(d: Duck) -> AutomixEngineConfig
 fn status(c: AutomixEngineConfig, state: MixState, l: LoopContributions, i: Inputs) -> RatioStatus
     ensures { λ r. ⌜ r ≡ statusOf c state l i ⌝ }
 {
-    let dialogue = i.dialogue_short_term;
-    let bed = i.bed_short_term;
-    let total = l.total_db;
     RatioStatus {
         state,
-        reduction_db: Db(round(total.0)),
+        reduction_db: Db(round(l.total_db.0)),
         slow_db: Db(round(l.slow_db.0)),
         mid_db: Db(round(l.mid_db.0)),
         fast_db: Db(round(l.fast_db.0)),
         target_lu: c.active_target_ratio_lu(state),
-        ratio_lu: ratio_shown(dialogue, bed, total),
-        dialogue_lufs: reading(dialogue),
-        bed_lufs: reading(bed),
+        ratio_lu: ratio_shown(i.dialogue_short_term, i.bed_short_term, l.total_db),
+        dialogue_lufs: reading(i.dialogue_short_term),
+        bed_lufs: reading(i.bed_short_term),
     }
 }
 
@@ -134,9 +133,9 @@ fn finite_shown(s: Shown) -> bool
 fn finite_loops(l: Loops) -> bool
     ensures { λ r. ⌜ r ≡ finiteLoops l ⌝ }
 {
-    float::finite(l.slow)
-        & float::finite(l.mid)
-        & float::finite(l.fast)
+    float::finite(l.slow.0)
+        & float::finite(l.mid.0)
+        & float::finite(l.fast.0)
         & float::finite(l.hold_remaining_seconds)
 }
 
@@ -163,9 +162,9 @@ fn disabled(d: Duck) -> Framed
     Framed {
         reduction: Db(0.0),
         loops: Loops {
-            slow: 0.0,
-            mid: 0.0,
-            fast: 0.0,
+            slow: Db(0.0),
+            mid: Db(0.0),
+            fast: Db(0.0),
             hold_remaining_seconds: 0.0,
         },
         status: RatioStatus {
@@ -188,14 +187,13 @@ fn enabled(loops: Loops, d: Duck, i: Inputs) -> Framed
     ensures { λ r. ⌜ r ≡ enabledFrame loops d i ⌝ }
 {
     let c = config(d);
-    let dialogue = i.dialogue_short_term;
-    let bed_short_term = i.bed_short_term;
-    let bed_momentary = i.bed_momentary;
-    let bed_fast = i.bed_fast;
+    let bed_short_term_lufs = i.bed_short_term;
+    let bed_momentary_lufs = i.bed_momentary;
+    let dialogue_short_term_lufs = i.dialogue_short_term;
     let loudness = LoudnessSnapshot {
-        bed_short_term_lufs: bed_short_term,
-        bed_momentary_lufs: bed_momentary,
-        dialogue_short_term_lufs: dialogue,
+        bed_short_term_lufs,
+        bed_momentary_lufs,
+        dialogue_short_term_lufs,
     };
     let t = c.process_tick(
         loops,
@@ -204,10 +202,14 @@ fn enabled(loops: Loops, d: Duck, i: Inputs) -> Framed
         i.target_voice & d.bed_voice,
         FRAME_S,
     );
-    let ticked = t.updated;
     let state = t.state;
-    let between = ticked.loops;
-    let f = c.process_fast(between, state, bed_fast, dialogue, FRAME_S);
+    let f = c.process_fast(
+        t.updated.loops,
+        state,
+        i.bed_fast,
+        i.dialogue_short_term,
+        FRAME_S,
+    );
     let after = f.loops;
     let l = after.contributions(c.loop_config());
     let reduction = l.total_db;
@@ -216,7 +218,7 @@ fn enabled(loops: Loops, d: Duck, i: Inputs) -> Framed
         reduction,
         loops: after,
         status: s,
-        finite: ticked.finite
+        finite: t.updated.finite
             & f.finite
             & finite_loops(after)
             & float::finite(reduction.0)

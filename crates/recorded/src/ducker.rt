@@ -3,6 +3,7 @@
 use super::input::BUFFER;
 use super::replay::Replay;
 use comis::loop_bank::Loops;
+use float::Db;
 use float::Lufs;
 use ratio::Duck;
 use ratio::Inputs;
@@ -24,7 +25,7 @@ fn settings(w: &[u64; SETTINGS]) -> Duck {
         enabled: w[0] == 1,
         target_lu: float::from_bits(w[1]),
         overvoice_lu: float::from_bits(w[2]),
-        max_reduction_db: float::from_bits(w[3]),
+        max_reduction_db: Db(float::from_bits(w[3])),
         speed: float::from_bits(w[4]),
         bed_voice: w[5] == 1,
     }
@@ -43,9 +44,9 @@ fn inputs(w: &[u64; INPUTS]) -> Inputs {
 
 fn stored(l: Loops) -> [u64; 4] {
     [
-        float::to_bits(l.slow),
-        float::to_bits(l.mid),
-        float::to_bits(l.fast),
+        float::to_bits(l.slow.0),
+        float::to_bits(l.mid.0),
+        float::to_bits(l.fast.0),
         float::to_bits(l.hold_remaining_seconds),
     ]
 }
@@ -71,9 +72,9 @@ fn step(before: Replay, name: &[u8], buffer: &mut [u8; BUFFER], i: u64, loops: L
 // A list's frames, from loops at 0.
 fn play(mut r: Replay, name: &[u8], buffer: &mut [u8; BUFFER], count: u64) -> Replay {
     let mut loops = Loops {
-        slow: 0.0,
-        mid: 0.0,
-        fast: 0.0,
+        slow: Db(0.0),
+        mid: Db(0.0),
+        fast: Db(0.0),
         hold_remaining_seconds: 0.0,
     };
     let mut i = 0;

@@ -14,10 +14,10 @@ use Rattle.biquad.specs.declared.State.{State}
 use Rattle.level.specs.declared.Level.{Level}
 use Rattle.level.specs.Valid.{Settled}
 use Rattle.level.specs.Valid as level
-use Rattle.detector.specs.declared.Filters.{Filters}
-use Rattle.detector.specs.declared.Smoothed as smoothedPower
-use Rattle.detector.specs.declared.Smoothed.the-variants as smoothedPowerCases
-use Rattle.detector.specs.declared.Floor.{Floor}
+use Rattle.detector.specs.declared.filters.Filters.{Filters}
+use Rattle.detector.specs.declared.floor.Smoothed as smoothedPower
+use Rattle.detector.specs.declared.floor.Smoothed.the-variants as smoothedPowerCases
+use Rattle.detector.specs.declared.floor.Floor.{Floor}
 use Rattle.detector.specs.Valid.{FiltersValid, SmoothedValid, FloorValid}
 use Rattle.vad.specs.declared.SpeechPower as speechPower
 use Rattle.vad.specs.declared.SpeechPower.the-variants as speechPowerCases

@@ -11,13 +11,13 @@ use Rattle.codec.specs.Forms.{f64, f32, below, flag, one, fixed, pair, as-a, al
 use Rattle.biquad.specs.declared.State.{State}
 use Rattle.level.specs.declared.Powers.{Powers}
 use Rattle.level.specs.declared.Level.{Level}
-use Rattle.detector.specs.declared.Filters.{Filters}
-use Rattle.detector.specs.declared.Decimated.{Decimated}
-use Rattle.detector.specs.declared.Smoothed as smoothedPower
-use Rattle.detector.specs.declared.Smoothed.the-variants as smoothedPowerCases
-use Rattle.detector.specs.declared.Minima.{Minima}
-use Rattle.detector.specs.declared.Floor.{Floor}
-use Rattle.detector.specs.declared.History.{History}
+use Rattle.detector.specs.declared.filters.Filters.{Filters}
+use Rattle.detector.specs.declared.filters.Decimated.{Decimated}
+use Rattle.detector.specs.declared.floor.Smoothed as smoothedPower
+use Rattle.detector.specs.declared.floor.Smoothed.the-variants as smoothedPowerCases
+use Rattle.detector.specs.declared.floor.Minima.{Minima}
+use Rattle.detector.specs.declared.floor.Floor.{Floor}
+use Rattle.detector.specs.declared.modulation.History.{History}
 use Rattle.vad.specs.declared.SpeechPower as speechPower
 use Rattle.vad.specs.declared.SpeechPower.the-variants as speechPowerCases
 use Rattle.vad.specs.declared.Decision.{Decision}

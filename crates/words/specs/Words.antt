@@ -17,7 +17,7 @@ use Rattle.vad.specs.declared.SpeechLevel.the-variants.{Unset, Dbfs}
 use Rattle.vad.specs.declared.VadSettings.{VadSettings}
 use Rattle.vad.specs.declared.VadState.{VadState}
 use Rattle.chain.specs.declared.Answer.{Answer}
-use Rattle.chain.specs.declared.Settings.{Settings}
+use Rattle.settings.specs.declared.Settings.{Settings}
 
 abbrev pub bits : Float → ℕ
 bits x = toBits binary64 x
@@ -94,7 +94,7 @@ duckFrom w = record {
   enabled = flagAt w 6;
   «target_lu» = numberAt w 7;
   «overvoice_lu» = numberAt w 8;
-  «max_reduction_db» = numberAt w 9;
+  «max_reduction_db» = record { 0 = numberAt w 9 };
   speed = numberAt w 10;
   «bed_voice» = flagAt w 11;
 }

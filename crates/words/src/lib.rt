@@ -15,12 +15,12 @@ ghost use Rattle.words.specs.Words.{
   settingsFrom,
 };
 use chain::Answer;
-use chain::Settings;
 use codec::flag_bits;
 use float::Db;
 use float::Lufs;
 use ratio::Duck;
 use ratio::RatioStatus;
+use settings::Settings;
 use vad::SpeechLevel;
 use vad::VadSettings;
 use vad::VadState;
@@ -141,7 +141,7 @@ fn duck(w: &[u64; 12]) -> Duck
         enabled: w[6] != 0,
         target_lu: float::from_bits(w[7]),
         overvoice_lu: float::from_bits(w[8]),
-        max_reduction_db: float::from_bits(w[9]),
+        max_reduction_db: Db(float::from_bits(w[9])),
         speed: float::from_bits(w[10]),
         bed_voice: w[11] != 0,
     }

@@ -5,6 +5,7 @@ use Prim.Native.Nat.{ℕ, _+_}
 use lib.ListN.{getD}
 use lib.Ieee.{binary64}
 use Rattle.codec.specs.Fields.{numOf}
+use Rattle.comis.specs.LoopBank.{db}
 use lib.Dec.{eqb}
 use Rattle.image.specs.Chain.{duck}
 use borrow.Author.Needs.{needs}
@@ -57,7 +58,7 @@ returns c =
       enabled = c .before .before .before .before .before .get-flag .ensures k;
       «target_lu» = c .before .before .before .before .get64 .ensures k;
       «overvoice_lu» = (c .before .before .before .get642 .ensures ∙ ap (λ (n : ℕ). numOf binary64 (getD l n 0)) p2) k;
-      «max_reduction_db» = (c .before .before .get643 .ensures ∙ ap (λ (n : ℕ). numOf binary64 (getD l n 0)) p3) k;
+      «max_reduction_db» = db ((c .before .before .get643 .ensures ∙ ap (λ (n : ℕ). numOf binary64 (getD l n 0)) p3) k);
       speed = (c .before .get644 .ensures ∙ ap (λ (n : ℕ). numOf binary64 (getD l n 0)) p4) k;
       «bed_voice» = (c .get-flag2 .ensures ∙ ap (λ (n : ℕ). eqb (getD l n 0) 1) p5) k;
     }

@@ -5,6 +5,7 @@ use Prim.Native.Nat.{ℕ, _+_}
 use lib.ListN.{getD}
 use lib.Ieee.{binary64}
 use Rattle.codec.specs.Fields.{numOf}
+use Rattle.comis.specs.LoopBank.{db}
 use Rattle.image.specs.Chain.{loops}
 use borrow.Author.Needs.{needs}
 use Rattle.image.proofs.get_loops.Statement.{statement}
@@ -39,9 +40,9 @@ returns c =
     let p2 : i + 2 ≡ i + 1 + 1 = omega arith in
     let p3 : i + 3 ≡ i + 1 + 1 + 1 = omega arith in
     λ k. record {
-      slow = c .before .before .before .get64 .ensures k;
-      mid = c .before .before .get642 .ensures k;
-      fast = (c .before .get643 .ensures ∙ ap (λ (n : ℕ). numOf binary64 (getD l n 0)) p2) k;
+      slow = db (c .before .before .before .get64 .ensures k);
+      mid = db (c .before .before .get642 .ensures k);
+      fast = db ((c .before .get643 .ensures ∙ ap (λ (n : ℕ). numOf binary64 (getD l n 0)) p2) k);
       «hold_remaining_seconds» = (c .get644 .ensures ∙ ap (λ (n : ℕ). numOf binary64 (getD l n 0)) p3) k;
     }
 

@@ -35,8 +35,8 @@ returns : tie.Need-returns
 unfolding enabledFrame
 returns c =
     simp (
-      c .before .before .before .before .before .before .before .before .before .before .before .before .before .before .before .before .before .before .before .before .config .ensures,
-      c .before .before .before .before .before .before .before .before .before .before .before .before .before .process-tick .ensures,
+      c .before .before .before .before .before .before .before .before .before .before .before .before .before .before .before .before .before .config .ensures,
+      c .before .before .before .before .before .before .before .before .before .before .before .process-tick .ensures,
       c .before .before .before .before .before .before .before .before .before .before .process-fast .ensures,
       c .before .before .before .before .before .before .before .before .loop-config .ensures,
       c .before .before .before .before .before .before .before .contributions .ensures,

@@ -32,8 +32,8 @@ element-copy-out-from-bits-4 c = search needs
 from-bits-requires-4 : tie.Need-from-bits-requires-4
 from-bits-requires-4 c κs = search needs
 
-element-copy-out-t24 : tie.Need-element-copy-out-t24
-element-copy-out-t24 c = search needs
+element-copy-out-t25 : tie.Need-element-copy-out-t25
+element-copy-out-t25 c = search needs
 
 returns : tie.Need-returns
 unfolding duckFrom
@@ -46,4 +46,4 @@ returns c =
     )
 
 pub duck-spec : {M : Type 1} → statement M
-duck-spec = tie.close (tie.spec element-copy-out-t4 element-copy-out-from-bits from-bits-requires element-copy-out-from-bits-2 from-bits-requires-2 element-copy-out-from-bits-3 from-bits-requires-3 element-copy-out-from-bits-4 from-bits-requires-4 element-copy-out-t24 returns)
+duck-spec = tie.close (tie.spec element-copy-out-t4 element-copy-out-from-bits from-bits-requires element-copy-out-from-bits-2 from-bits-requires-2 element-copy-out-from-bits-3 from-bits-requires-3 element-copy-out-from-bits-4 from-bits-requires-4 element-copy-out-t25 returns)

@@ -30,14 +30,14 @@ returns : tie.Need-returns
 unfolding processTick tickIn
 returns c =
     simp (
-      sym (c .before .before .before .before .before .before .before .before .before .before .from-vad .ensures),
-      sym (c .before .before .before .before .before .before .before .before .before .loop-config .ensures),
-      sym (c .before .before .before .before .before .before .before .before .is-ducking .ensures),
-      sym (c .before .before .before .before .before .before .active-target-ratio-lu .ensures),
+      sym (c .before .before .before .before .before .before .before .from-vad .ensures),
+      sym (c .before .before .before .before .before .before .loop-config .ensures),
+      sym (c .before .before .before .before .before .is-ducking .ensures),
+      sym (c .before .before .before .active-target-ratio-lu .ensures),
       sym (c .before .before .required-reduction .ensures),
       sym (c .before .required-reduction2 .ensures),
       sym (c .update-slow-mid .ensures),
-      c .before .before .before .before .before .before .before .if1 .taken,
+      c .before .before .before .before .if1 .taken,
     )
 
 update-release-requires : tie.Need-update-release-requires

@@ -21,19 +21,19 @@ returns : tie.Need-returns
 unfolding fastGoal duckGoal
 returns c =
     simp (
-      sym (c .before .before .before .is-ducking .ensures),
-      c .before .before .if1 .taken,
-      c .enum-told .given .1,
+      sym (c .before .before .before .before .is-ducking .ensures),
+      c .before .before .before .if1 .taken,
+      c .before .enum-told .given .1,
     )
 
 returns-2 : tie.Need-returns-2
 unfolding fastGoal duckGoal
 returns-2 c =
     simp (
-      sym (c .before .before .before .before .before .before .is-ducking .ensures),
+      sym (c .before .before .before .before .before .before .before .is-ducking .ensures),
       sym (c .clamp .ensures),
-      c .before .before .before .before .before .if1 .taken,
-      c .before .before .before .required .given .1,
+      c .before .before .before .before .before .before .if1 .taken,
+      c .before .before .before .before .required .given .1,
     )
 
 returns-3 : tie.Need-returns-3

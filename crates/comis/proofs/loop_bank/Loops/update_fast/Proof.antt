@@ -15,8 +15,8 @@ returns : tie.Need-returns
 unfolding updateFast
 returns c =
     simp (
-      sym (c .before .fast-goal .ensures),
-      sym (c .step .ensures),
+      sym (c .before .before .fast-goal .ensures),
+      sym (c .before .step .ensures),
     )
 
 pub update-fast-spec : {M : Type 1} → statement M

@@ -26,12 +26,12 @@ returns : tie.Need-returns
 unfolding updateRelease lessTrim
 returns c =
     simp (
-      c .before .before .before .before .before .before .before .before .before .before .max .ensures,
-      c .before .before .before .before .before .before .before .before .before .step .ensures,
-      c .before .before .before .before .before .before .max2 .ensures,
-      c .before .before .before .before .before .step2 .ensures,
-      c .before .before .before .max3 .ensures,
-      c .before .before .pick .ensures,
+      c .before .before .before .before .before .before .before .before .before .before .before .before .max .ensures,
+      c .before .before .before .before .before .before .before .before .before .before .before .step .ensures,
+      c .before .before .before .before .before .before .before .before .max2 .ensures,
+      c .before .before .before .before .before .before .before .step2 .ensures,
+      c .before .before .before .before .max3 .ensures,
+      c .before .before .before .pick .ensures,
     )
 
 pub update-release-spec : {M : Type 1} → statement M

@@ -15,7 +15,7 @@ returns : tie.Need-returns
 unfolding updateSlowMid
 returns c =
     simp (
-      sym (c .before .before .before .before .before .step-slow .ensures),
+      sym (c .before .before .before .before .step-slow .ensures),
       sym (c .before .before .before .step-mid .ensures),
     )
 
