@@ -19,7 +19,7 @@ use Rattle.detector.proofs.Finished.{samples-all}
 use Rattle.vad.specs.declared.VadSettings.{VadSettings}
 use Rattle.vad.specs.declared.Strand.{Strand}
 use Rattle.vad.specs.Strand as strand
-use Rattle.chain.proofs.Accepted.{both, told}
+use Rattle.sequence.proofs.Tests.{both, told}
 use Rattle.chain.specs.StrandFrames.{Whole, finishedOf, strandOf}
 
 module _ (xs : List Float) (n : length xs ≡ frameLength) (ok : T (allFinite xs)) where

@@ -1,22 +1,20 @@
 -- A chain's calls: fresh, a frame, a settings call, a reset. A refused call leaves the chain as it was.
 use Prim.Native.Nat.{ℕ}
-use mathlib.Core.Bool.{Bool, true, cond, _&&_, _||_}
+use mathlib.Core.Bool.{Bool, cond, _&&_, _||_}
 use mathlib.Core.List.{List}
 use lib.Dec.{eqb}
 use lib.ListN.{length}
-use lib.Ieee.{Float, binary64, neg, ofBits}
+use lib.Ieee.{Float}
 use Rattle.refusal.specs.declared.Refusal.{Refusal}
 use Rattle.refusal.specs.declared.Refusal.the-variants.{ShortFrame, BadSample, BadSetting, Runaway, CounterFull, NoStrand}
 use Rattle.level.specs.Bs1770.{frameLength}
 use Rattle.float.specs.AllFinite.{allFinite}
-use Rattle.vad.specs.declared.VadSettings.{VadSettings}
 use Rattle.vad.specs.declared.Strand.{Strand}
 use Rattle.vad.specs.declared.Framed as heard
 use Rattle.vad.specs.Strand as strand
-use Rattle.ratio.specs.declared.Duck.{Duck}
 use Rattle.ratio.specs.declared.Inputs.{Inputs}
 use Rattle.ratio.specs.Frame as ratio
-use Rattle.chain.specs.declared.Settings.{Settings}
+use Rattle.settings.specs.declared.Settings.{Settings}
 use Rattle.chain.specs.declared.Chain.{Chain}
 use Rattle.chain.specs.declared.Answer.{Answer}
 use Rattle.chain.specs.declared.Outcome.the-variants as outcome
@@ -24,31 +22,9 @@ use Rattle.chain.specs.declared.Framed.{Framed}
 use Rattle.chain.specs.declared.Verdict.the-variants as verdict
 use Rattle.chain.specs.declared.Changed.{Changed}
 use Rattle.chain.specs.declared.Worked.{Worked}
-use Rattle.chain.specs.Settings.{callRanges, outsideSettings, storedOf}
+use Rattle.settings.specs.Settings.{callRanges, outsideSettings, storedOf, freshSettings}
 
 -- ---- fresh
-
--- threshold 0.5, hold 300 ms, gate -50 LUFS
-abbrev pub freshStrand : VadSettings
-freshStrand = record {
-  threshold = ofBits binary64 0x3fe0000000000000;
-  «hold_ms» = ofBits binary64 0x4072c00000000000;
-  «gate_lufs» = record { 0 = neg (ofBits binary64 0x4049000000000000) };
-}
-
--- enabled, target 5, overvoice 13, at most 24 dB, speed 1, bed_voice on
-abbrev pub freshDuck : Duck
-freshDuck = record {
-  enabled = true;
-  «target_lu» = ofBits binary64 0x4014000000000000;
-  «overvoice_lu» = ofBits binary64 0x402a000000000000;
-  «max_reduction_db» = record { 0 = ofBits binary64 0x4038000000000000 };
-  speed = ofBits binary64 0x3ff0000000000000;
-  «bed_voice» = true;
-}
-
-abbrev pub freshSettings : Settings
-freshSettings = record { key = freshStrand; bed = freshStrand; duck = freshDuck }
 
 abbrev pub freshOf : Chain
 freshOf = record { settings = freshSettings; key = strand.freshOf; bed = strand.freshOf; loops = ratio.zeroLoops }

@@ -1,11 +1,4 @@
-pub mod Settings
 pub mod Chain
 pub mod StrandFrames
 pub mod Valid
 pub mod Numbers
-pub mod Rules
-pub mod Runaway
-pub mod Rust
-pub mod RustState
-pub mod Loudness
-pub mod Dead

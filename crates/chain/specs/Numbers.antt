@@ -13,7 +13,7 @@ use Rattle.vad.specs.declared.SpeechPower.the-variants as speech
 use Rattle.vad.specs.declared.Strand.{Strand}
 use Rattle.comis.specs.declared.loop_bank.Loops.{Loops}
 use Rattle.ratio.specs.declared.Duck.{Duck}
-use Rattle.chain.specs.declared.Settings.{Settings}
+use Rattle.settings.specs.declared.Settings.{Settings}
 use Rattle.chain.specs.declared.Chain.{Chain}
 
 abbrev pub ofStrandSettings : VadSettings → List Float

@@ -7,10 +7,10 @@ use Rattle.demands.specs.Calls.{event, save, restore, Step}
 use Rattle.chain.specs.declared.Chain.{Chain}
 use Rattle.chain.specs.declared.Changed.{Changed}
 use Rattle.chain.specs.declared.Framed.{Framed}
-use Rattle.chain.specs.declared.Settings.{Settings}
+use Rattle.settings.specs.declared.Settings.{Settings}
 use Rattle.chain.specs.declared.Verdict.{Verdict}
 use Rattle.chain.specs.Chain.{frameOf, setOf, resetOf}
-use Rattle.chain.specs.Rules.{HeldStrand, HeldDuck, Asked, frame, settings, reset, Answered, afterFrame, afterChange}
+use Rattle.rules.specs.Rules.{HeldStrand, HeldDuck, Asked, frame, settings, reset, Answered, afterFrame, afterChange}
 use Rattle.image.specs.Image.{saveVerdict, savedIn, restoreOf}
 use Rattle.image.specs.Port.{port}
 use Rattle.freightpetal.specs.Steps.{afterSave, afterRestore}

@@ -7,10 +7,9 @@ use Rattle.demands.specs.Demands.{stateOf}
 use Rattle.demands.specs.Dead.{TwoStates}
 use Rattle.demands.proofs.Dead as dead
 use Rattle.chain.specs.declared.Chain.{Chain}
-use Rattle.chain.specs.declared.Settings.{Settings}
-use Rattle.chain.specs.Settings.{outsideOf, outsideStrand, outsideDuck, outsideSettings, storedOf, storedDuck}
-use Rattle.chain.specs.Chain.{freshStrand, freshDuck}
-use Rattle.chain.specs.Rules.{HeldStrand, HeldDuck, Asked, settings, settingsNumber, rules}
+use Rattle.settings.specs.declared.Settings.{Settings}
+use Rattle.settings.specs.Settings.{outsideOf, outsideStrand, outsideDuck, outsideSettings, storedOf, storedDuck, freshStrand, freshDuck}
+use Rattle.rules.specs.Rules.{HeldStrand, HeldDuck, Asked, settings, settingsNumber, rules}
 use Rattle.image.specs.Port.{images}
 use Rattle.freightpetal.specs.Dead.{NoDeadUnits}
 

@@ -5,14 +5,14 @@ use Prim.Native.Nat.{ℕ}
 use Rattle.demands.specs.Demands.{Demands}
 use Rattle.demands.proofs.Demands as demands
 use Rattle.chain.specs.declared.Chain.{Chain}
-use Rattle.chain.specs.Rules.{rules}
-use Rattle.chain.specs.Rust.{rust}
-use Rattle.chain.specs.RustState.{stored}
-use Rattle.chain.specs.Loudness.{loudness}
+use Rattle.rules.specs.Rules.{rules}
+use Rattle.rules.specs.Rust.{rust}
+use Rattle.rules.specs.RustState.{stored}
+use Rattle.rules.specs.Loudness.{loudness}
 use Rattle.chain.specs.Valid.{Valid}
-use Rattle.chain.proofs.AgreesRust.{rust-agrees}
-use Rattle.chain.proofs.RustState.{rust-stores}
-use Rattle.chain.proofs.AgreesLoudness.{loudness-agrees}
+use Rattle.rules.proofs.AgreesRust.{rust-agrees}
+use Rattle.rules.proofs.RustState.{rust-stores}
+use Rattle.rules.proofs.AgreesLoudness.{loudness-agrees}
 use Rattle.image.specs.Image.{image, refusesImage, restoreOf}
 use Rattle.image.specs.Port.{images, port}
 use Rattle.image.proofs.Laws.{read-valid, read-accepted, restore-accepted, restore-image, same-image, one-word-refused, accepted-word-refused}

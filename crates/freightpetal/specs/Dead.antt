@@ -2,7 +2,7 @@
 use Rattle.demands.specs.Calls.{Calls, allCalls, Port}
 use Rattle.demands.specs.Demands.{Demand3b, Demand3c}
 use Rattle.demands.specs.Dead.{OneImage, RestoresNothing}
-use Rattle.chain.specs.Rules.{rules}
+use Rattle.rules.specs.Rules.{rules}
 use Rattle.image.specs.Port.{images}
 
 abbrev pub taken : Calls rules

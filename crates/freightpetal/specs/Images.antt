@@ -13,7 +13,7 @@ use Rattle.demands.specs.Calls.{Log, Call, allCalls}
 use Rattle.demands.specs.Demands.{after}
 use Rattle.chain.specs.declared.Chain.{Chain}
 use Rattle.chain.specs.Chain.{changed}
-use Rattle.chain.specs.Rules.{Event, rules}
+use Rattle.rules.specs.Rules.{Event, rules}
 use Rattle.chain.specs.Valid.{Valid}
 use Rattle.image.specs.Layout.{blockCount, imageBytes}
 use Rattle.image.specs.Image.{wordsOf, image, refusesImage, restoreOf}

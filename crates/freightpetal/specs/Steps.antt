@@ -5,7 +5,7 @@ use Rattle.demands.specs.Calls.{Step, gets}
 use Rattle.chain.specs.declared.Chain.{Chain}
 use Rattle.chain.specs.declared.Changed.{Changed}
 use Rattle.chain.specs.declared.Verdict.{Verdict}
-use Rattle.chain.specs.Rules.{Answered}
+use Rattle.rules.specs.Rules.{Answered}
 use Rattle.image.specs.Port.{replyOf}
 
 -- the chain c stays, and the lent bytes are l

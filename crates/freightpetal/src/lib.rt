@@ -2,21 +2,15 @@
 // A contract says the call's result by its definition, and that the result is what the port of the demands does.
 ghost use mathlib.Core.Path.{_≡_};
 ghost use Rattle.demands.specs.Calls.{event, save, restore};
-ghost use Rattle.demands.specs.Demands.{Demands};
 ghost use Rattle.chain.specs.Chain.{freshOf, frameOf, setOf, resetOf};
-ghost use Rattle.chain.specs.Rules.{Asked, frame, settings, reset, rules, afterFrame, afterChange};
-ghost use Rattle.chain.specs.Rust.{rust};
-ghost use Rattle.chain.specs.RustState.{stored};
-ghost use Rattle.chain.specs.Loudness.{loudness};
+ghost use Rattle.rules.specs.Rules.{Asked, frame, settings, reset, afterFrame, afterChange};
 ghost use Rattle.image.specs.Image.{saveVerdict, savedIn, restoreOf};
-ghost use Rattle.freightpetal.specs.Dead.{NoDeadUnits};
-ghost use Rattle.image.specs.Port.{images, port};
+ghost use Rattle.image.specs.Port.{port};
 ghost use Rattle.freightpetal.specs.Steps.{afterSave, afterRestore};
-ghost use Rattle.freightpetal.specs.Images.{ImageLaws};
 use chain::Chain;
 use chain::Changed;
 use chain::Framed;
-use chain::Settings;
+use settings::Settings;
 use chain::Verdict;
 
 // A fresh chain.
@@ -60,18 +54,3 @@ pub fn restore(c: Chain, bytes: &[u8]) -> Changed
 {
     image::restore(c, bytes)
 }
-
-// The three demands over every list of calls. The function does nothing: its contract is the promise.
-pub fn demands()
-    ensures { λ _. ⌜ Demands rules images port rust loudness stored ⌝ }
-{}
-
-// What is promised of images beside the demands.
-pub fn image_laws()
-    ensures { λ _. ⌜ ImageLaws ⌝ }
-{}
-
-// No unit that meets the demands writes one fixed image, or leaves a chain as it is at every restore.
-pub fn dead_units()
-    ensures { λ _. ⌜ NoDeadUnits ⌝ }
-{}

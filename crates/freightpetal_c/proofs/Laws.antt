@@ -21,10 +21,10 @@ use Rattle.chain.specs.declared.Outcome.the-variants as outcome
 use Rattle.chain.specs.declared.Verdict.{Verdict}
 use Rattle.chain.specs.declared.Verdict.the-variants as verdict
 use Rattle.chain.specs.Chain.{freshOf, frameOf, setOf, resetOf}
-use Rattle.chain.specs.Rules.{Event, frame, settings, reset, Answered, rules, refuses, replyOf, notedOf}
-use Rattle.chain.specs.Rules as events
+use Rattle.rules.specs.Rules.{Event, frame, settings, reset, Answered, rules, refuses, replyOf, notedOf}
+use Rattle.rules.specs.Rules as events
 use Rattle.chain.specs.Valid.{Valid}
-use Rattle.chain.proofs.Laws.{refused, passes}
+use Rattle.rules.proofs.Laws.{refused, passes}
 use Rattle.image.specs.Layout.{imageBytes}
 use Rattle.image.specs.Image.{image, refusesImage, saveVerdict, savedIn, restoreOf}
 use Rattle.image.specs.Port.{images, port}

@@ -12,7 +12,7 @@ use Rattle.demands.specs.Calls.{Log, empty, _▹_, Call, event, save, restore, 
 use Rattle.demands.specs.Demands.{from}
 use Rattle.chain.specs.declared.Chain.{Chain}
 use Rattle.chain.specs.Chain.{freshOf}
-use Rattle.chain.specs.Rules.{Event, frame, settings, reset, Answered, shown, noted, rules}
+use Rattle.rules.specs.Rules.{Event, frame, settings, reset, Answered, shown, noted, rules}
 use Rattle.chain.specs.Valid.{Valid}
 use Rattle.image.specs.Layout.{imageBytes}
 use Rattle.image.specs.Image.{image}

@@ -5,7 +5,6 @@ ghost use mathlib.Core.Path.{_≡_};
 ghost use Rattle.chain.specs.Chain.{freshOf, frameOf};
 ghost use Rattle.image.specs.Image.{restoreOf};
 ghost use Rattle.words.specs.Words.{settingsFrom};
-ghost use Rattle.freightpetal_c.specs.Laws.{LentLaws};
 ghost use Rattle.freightpetal_c.specs.Lent.{codeOf, freshIn, codeIn, framedIn, frameIn, changedIn, setIn, resetIn};
 use chain::Chain;
 use chain::Changed;
@@ -118,8 +117,3 @@ pub extern "C" fn freightpetal_reset(image: &mut [u8], strand: u64) -> u64
         Verdict::Refused(refusal) => refusal::number(refusal),
     }
 }
-
-// What the calls on a lent image come to, over every list of them. The function does nothing: its contract is the promise.
-pub fn lent_laws()
-    ensures { λ _. ⌜ LentLaws ⌝ }
-{}

@@ -22,10 +22,9 @@ use Rattle.codec.specs.Kept.{here-head, T-true, ofBits-finite}
 use Rattle.codec.specs.Forms.{f64, flag, one, fixed, pair}
 use Rattle.codec.proofs.Numbers.{numOf-in}
 use Rattle.codec.proofs.Accepted.{accepted}
-use Rattle.chain.specs.declared.Range.{Range}
+use Rattle.settings.specs.declared.Range.{Range}
 use Rattle.chain.specs.declared.Chain.{Chain}
-use Rattle.chain.specs.Settings.{imageRanges, outsideOf, outsideStrand, outsideDuck, outsideSettings}
-use Rattle.chain.specs.Chain.{freshSettings}
+use Rattle.settings.specs.Settings.{imageRanges, outsideOf, outsideStrand, outsideDuck, outsideSettings, freshSettings}
 use Rattle.chain.specs.Valid.{Valid}
 use Rattle.strand_image.specs.Strand.{strand, front, state, filters, powers, decimated, floor, smoothed, window, minima, history, decision, counts, power}
 use Rattle.strand_image.specs.Words.{Finite64, Flag}
@@ -34,7 +33,7 @@ use Rattle.strand_image.proofs.Words.{number, flagged, strand-words}
 use Rattle.image.specs.Layout.{edition, unusedWords, payloadWords}
 use Rattle.image.specs.Chain.{strandSettings, duck, signedOf, signedStrand, signedDuck, signedSettings, settingsRule, numbers, fresh-numbers, fresh-rule, settings, loops, chain}
 use Rattle.image.specs.Image.{wordsOf}
-use Rattle.chain.proofs.Zero.{zero-exponent}
+use Rattle.settings.proofs.Zero.{zero-exponent}
 use Rattle.image.specs.Words.{SettingWord, PayloadWords}
 use Rattle.image.proofs.Valid.{or-false, false-or, not-true, both-true, unlike, chain-valid, valid-chain}
 

@@ -1,7 +1,7 @@
 -- Demands' laws of every call: the chain's of events, and those of saves and restores.
 use Rattle.demands.specs.Laws.{Laws}
-use Rattle.chain.specs.Rules.{rules}
-use Rattle.chain.proofs.Laws.{laws}
+use Rattle.rules.specs.Rules.{rules}
+use Rattle.rules.proofs.Laws.{laws}
 use Rattle.image.specs.Port.{images, port}
 use Rattle.image.proofs.Laws.{bits-inj, accepted-image, image-number, saved, save-refused, restored, restore-refused}
 

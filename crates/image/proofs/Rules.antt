@@ -3,9 +3,8 @@ use mathlib.Core.Path.{_≡_, sym, ap, _∙_}
 use mathlib.Core.Bool.{true, false}
 use Rattle.codec.specs.Fields.{ruled}
 use Rattle.codec.specs.Kept.{true-T, ruled-same, ruled-other}
-use Rattle.chain.specs.declared.Settings.{Settings}
-use Rattle.chain.specs.Settings.{imageRanges, outsideSettings}
-use Rattle.chain.specs.Chain.{freshSettings}
+use Rattle.settings.specs.declared.Settings.{Settings}
+use Rattle.settings.specs.Settings.{imageRanges, outsideSettings, freshSettings}
 use Rattle.image.specs.Chain.{signedSettings, settingsRule}
 
 module _ (s t : Settings) (e : s ≡ t) where

@@ -11,12 +11,13 @@ use Rattle.vad.specs.declared.VadSettings.{VadSettings}
 use Rattle.ratio.specs.declared.Duck.{Duck}
 use Rattle.comis.specs.declared.loop_bank.Loops.{Loops}
 use Rattle.comis.specs.Loops.{LoopsStored}
-use Rattle.chain.specs.declared.Settings.{Settings}
-use Rattle.chain.specs.declared.Range.{Range}
-use Rattle.chain.specs.declared.Ranges.{Ranges}
+use Rattle.settings.specs.declared.Settings.{Settings}
+use Rattle.settings.specs.declared.Range.{Range}
+use Rattle.settings.specs.declared.Ranges.{Ranges}
 use Rattle.chain.specs.declared.Chain.{Chain}
-use Rattle.chain.specs.Settings.{imageRanges, outsideOf, outsideStrand, outsideDuck, outsideSettings, zeroedOf}
-use Rattle.chain.specs.Valid.{SettingValid, StrandSettingsValid, DuckValid, SettingsValid, Valid}
+use Rattle.settings.specs.Settings.{imageRanges, outsideOf, outsideStrand, outsideDuck, outsideSettings, zeroedOf}
+use Rattle.chain.specs.Valid.{Valid}
+use Rattle.settings.specs.Valid.{SettingValid, StrandSettingsValid, DuckValid, SettingsValid}
 use Rattle.strand_image.specs.Strand.{zero-bits}
 use Rattle.strand_image.proofs.Valid.{strand-valid, valid-strand}
 use Rattle.image.specs.Chain.{strandSettings, duck, signedOf, signedStrand, signedDuck, signedSettings, numbers, settings, loops, chain}

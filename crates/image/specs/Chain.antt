@@ -13,10 +13,9 @@ use Rattle.float.specs.Arithmetic.{zero64}
 use Rattle.vad.specs.declared.VadSettings.{VadSettings}
 use Rattle.ratio.specs.declared.Duck.{Duck}
 use Rattle.comis.specs.declared.loop_bank.Loops.{Loops}
-use Rattle.chain.specs.declared.Settings.{Settings}
+use Rattle.settings.specs.declared.Settings.{Settings}
 use Rattle.chain.specs.declared.Chain.{Chain}
-use Rattle.chain.specs.Settings.{imageRanges, outsideOf, outsideStrand, outsideDuck, outsideSettings}
-use Rattle.chain.specs.Chain.{freshSettings}
+use Rattle.settings.specs.Settings.{imageRanges, outsideOf, outsideStrand, outsideDuck, outsideSettings, freshSettings}
 use Rattle.comis.specs.LoopBank.{db}
 use Rattle.strand_image.specs.Strand.{strand}
 use Rattle.image.specs.Layout.{edition, unusedWords}

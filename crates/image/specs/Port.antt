@@ -8,8 +8,8 @@ use Rattle.demands.specs.Calls.{event, save, restore, Reply, refusal, passed, d
 use Rattle.chain.specs.declared.Chain.{Chain}
 use Rattle.chain.specs.declared.Verdict.{Verdict}
 use Rattle.chain.specs.declared.Verdict.the-variants.{Passed, Refused}
-use Rattle.chain.specs.Rules.{rules}
-use Rattle.chain.specs.Rules as events
+use Rattle.rules.specs.Rules.{rules}
+use Rattle.rules.specs.Rules as events
 use Rattle.image.specs.Layout.{imageBytes}
 use Rattle.image.specs.Image.{wordsOf, image, rightLength, refusesImage, saveVerdict, savedIn, restoreOf}
 

@@ -5,8 +5,8 @@ use mathlib.Core.List.{List}
 use Prim.Native.Nat.{ℕ, _≤_, _<_}
 use lib.ListN.{getD}
 use lib.Ieee.{binary64, ofBits, lt}
-use Rattle.chain.specs.declared.Range.{Range}
-use Rattle.chain.specs.Settings.{imageRanges}
+use Rattle.settings.specs.declared.Range.{Range}
+use Rattle.settings.specs.Settings.{imageRanges}
 use Rattle.strand_image.specs.Words.{Finite64, Flag, StrandWords}
 use Rattle.image.specs.Layout.{edition, payloadWords}
 

@@ -18,7 +18,7 @@ ghost use Rattle.image.specs.Chain.{
 ghost use Rattle.image.specs.Image.{saveVerdict, savedIn, restoreOf};
 use chain::Chain;
 use chain::Changed;
-use chain::Settings;
+use settings::Settings;
 use chain::Verdict;
 use comis::loop_bank::Loops;
 use float::Db;

@@ -1,9 +1,66 @@
-// What is promised of the crates together. The functions do nothing: their contracts hold the laws, so that the laws are part of the verdict.
+// Every promise beside the contracts of the calls, as one list. The functions do nothing: their contracts are the promises, so that these are part
+// of the verdict.
+ghost use Rattle.demands.specs.Demands.{Demands, EventDemands};
+ghost use Rattle.rules.specs.Rules as chain;
+ghost use Rattle.rules.specs.Rules.{rules};
+ghost use Rattle.rules.specs.Rust.{rust};
+ghost use Rattle.rules.specs.RustState.{stored};
+ghost use Rattle.rules.specs.Loudness.{loudness, ReadsBs1770};
+ghost use Rattle.runaway.specs.Runaway.{RunawayExact};
+ghost use Rattle.image.specs.Port.{images, port};
+ghost use Rattle.freightpetal.specs.Images.{ImageLaws};
+ghost use Rattle.freightpetal_c.specs.Laws.{LentLaws};
+ghost use Rattle.dead_units.specs.Dead as chains;
+ghost use Rattle.freightpetal.specs.Dead as savers;
 ghost use Rattle.promises.specs.StandIns.{StandIns};
 ghost use Rattle.promises.specs.Loudness.{Loudness};
 ghost use Rattle.promises.specs.Voice.{Voice};
 ghost use Rattle.ratio.specs.Laws.{DuckerLaws};
 ghost use Rattle.promises.specs.Examples.{Examples};
+
+// ---- the whole
+
+// The three demands over every list of frames, settings calls, resets, saves and restores.
+pub fn demands()
+    ensures { λ _. ⌜ Demands rules images port rust loudness stored ⌝ }
+{}
+
+// Demands 1 and 2 over every list of frames, settings calls and resets, for the chain alone.
+pub fn events()
+    ensures { λ _. ⌜ EventDemands rules chain.port rust loudness stored ⌝ }
+{}
+
+// In every frame that passes the strands read, and the ducker is given, what BS.1770 says of all samples since a strand's last reset, unrounded.
+pub fn readings()
+    ensures { λ _. ⌜ ReadsBs1770 ⌝ }
+{}
+
+// Refusal 4 of a frame: exactly where a number that it would store, answer or hand on isn't finite.
+pub fn runaway()
+    ensures { λ _. ⌜ RunawayExact ⌝ }
+{}
+
+// What is promised of images beside the demands.
+pub fn image_laws()
+    ensures { λ _. ⌜ ImageLaws ⌝ }
+{}
+
+// What the calls on a lent image come to, over every list of them.
+pub fn lent_laws()
+    ensures { λ _. ⌜ LentLaws ⌝ }
+{}
+
+// No unit that meets the demands answers one reduction to every frame, repeats its answer to the first, invents onsets, or refuses every frame.
+pub fn dead_units()
+    ensures { λ _. ⌜ chains.NoDeadUnits ⌝ }
+{}
+
+// Nor does one that writes one fixed image, or leaves a chain as it is at every restore.
+pub fn dead_images()
+    ensures { λ _. ⌜ savers.NoDeadUnits ⌝ }
+{}
+
+// ---- its parts
 
 // The bounds of logarithm and power, and that the root is the nearest f64 and `round` the nearest whole number.
 pub fn stand_ins()

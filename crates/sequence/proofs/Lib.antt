@@ -6,3 +6,4 @@ pub mod Newest
 pub mod Places
 pub mod Counted
 pub mod All
+pub mod Tests

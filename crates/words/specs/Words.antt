@@ -17,7 +17,7 @@ use Rattle.vad.specs.declared.SpeechLevel.the-variants.{Unset, Dbfs}
 use Rattle.vad.specs.declared.VadSettings.{VadSettings}
 use Rattle.vad.specs.declared.VadState.{VadState}
 use Rattle.chain.specs.declared.Answer.{Answer}
-use Rattle.chain.specs.declared.Settings.{Settings}
+use Rattle.settings.specs.declared.Settings.{Settings}
 
 abbrev pub bits : Float → ℕ
 bits x = toBits binary64 x

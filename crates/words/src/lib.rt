@@ -15,7 +15,7 @@ ghost use Rattle.words.specs.Words.{
   settingsFrom,
 };
 use chain::Answer;
-use chain::Settings;
+use settings::Settings;
 use codec::flag_bits;
 use float::Db;
 use float::Lufs;

@@ -1,6 +1,6 @@
 -- `set` meets its contract: by what the crate below promises, and the port's step is that. Each float of the settings fits binary64, since an f64 held it.
 use borrow.Author.Needs.{needs}
-use Rattle.chain.proofs.Accepted.{told}
+use Rattle.sequence.proofs.Tests.{told}
 use Rattle.freightpetal.proofs.Calls.{on-set}
 use Rattle.freightpetal.proofs.set.Statement.{statement}
 use Rattle.freightpetal.proofs.set.Tie as tie

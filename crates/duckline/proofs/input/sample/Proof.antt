@@ -21,8 +21,8 @@ mul-from-bits32 c = search needs
 add-from-bits32 : tie.Need-add-from-bits32
 add-from-bits32 c = search needs
 
-from-to-bits32-requires : tie.Need-from-to-bits32-requires
-from-to-bits32-requires c κs = search needs
+from-bits32-requires : tie.Need-from-bits32-requires
+from-bits32-requires c κs = search needs
 
 returns : tie.Need-returns
 returns c = c .from-bits32 .ensures ∙ (λ i. ofBits binary32 (c .before .before .half .ensures .0 i + c .before .half2 .ensures .0 i * 65536))
@@ -36,5 +36,5 @@ sample-spec =
     half-requires-2
     mul-from-bits32
     add-from-bits32
-    from-to-bits32-requires
+    from-bits32-requires
     returns)

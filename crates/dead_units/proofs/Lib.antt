@@ -1,0 +1,4 @@
+pub mod Silence
+pub mod Witness
+pub mod Units
+pub mod Dead

@@ -1,0 +1,9 @@
+pub mod Accepted
+pub mod Valid
+pub mod AllFinite
+pub mod Laws
+pub mod AgreesRust
+pub mod RustState
+pub mod AgreesLoudness
+pub mod ReadsLoudness
+pub mod Promise

@@ -1,0 +1,106 @@
+-- A chain that stands for the Rust's is what the Rust's state stores: a valid history is what it holds, and blanks.
+use Prim.Native.Nat.{ℕ}
+use mathlib.Core.Path.{_≡_, refl, sym, ap, _∙_}
+use mathlib.Core.Bool.{Bool, true, false, cond}
+use mathlib.Core.List.{List}
+use lib.Dec.{eqb}
+use lib.ListN.{length}
+use lib.Ieee.{Float, inf}
+use borrow.Author.Tests.{eqb-true}
+use Rattle.demands.specs.Laws.{Stores}
+use Rattle.sequence.specs.History.{latest, held, filled}
+use Rattle.sequence.specs.Counted.{Counted}
+use Rattle.sequence.proofs.Counted.{counted-length, counted-filled}
+use Rattle.float.specs.Arithmetic.{zero64}
+use Rattle.level.specs.declared.Level.{Level}
+use Rattle.level.specs.Deque.{Meter, meterOf}
+use Rattle.level.specs.Valid as level
+use Rattle.detector.specs.declared.Floor.{Floor}
+use Rattle.detector.specs.declared.FeatureDetector.{FeatureDetector}
+use Rattle.detector.specs.Rust.{RustFloor, RustDetector}
+use Rattle.detector.specs.Agrees as detector
+use Rattle.detector.specs.Valid.{FloorValid}
+use Rattle.detector.specs.Valid as detected
+use Rattle.vad.specs.declared.Strand.{Strand}
+use Rattle.vad.specs.Rust.{RustVad}
+use Rattle.vad.specs.Agrees.{Agrees}
+use Rattle.vad.specs.Valid as strand
+use Rattle.comis.specs.Rust.{AutomixEngine}
+use Rattle.chain.specs.Valid.{Valid}
+use Rattle.rules.specs.Rules.{rules}
+use Rattle.rules.specs.Rust.{rust}
+use Rattle.rules.specs.RustState.{levelStored, floorStored, detectorStored, strandStored, loopsStored, stored}
+use Rattle.rules.proofs.AgreesRust.{rust-agrees}
+
+-- ---- a deque: the list xs that a count and its places hold
+
+module _ {Good : Float → Type 0} {blank : Float} {n count : ℕ} {places : List Float} (ok : Counted Good blank n count places) (xs : List Float) (e : xs ≡ held count places) where
+  deque-count : count ≡ length xs
+  deque-count = sym (ap length e ∙ counted-length Good blank n count places ok)
+
+  deque-places : places ≡ filled blank n xs
+  deque-places = sym (ap (filled blank n) e ∙ counted-filled Good blank n count places ok)
+
+-- ---- a strand's parts
+
+level-stored : (l : Level) (m : Meter) → level.Valid l → m ≡ meterOf l → l ≡ levelStored m
+level-stored l m v e =
+    let frames : m .frames ≡ held (l .powers .count) (l .powers .list) = ap (λ (m : Meter). m .frames) e in
+    λ i. record {
+      shelf = sym e i .shelf;
+      «high_pass» = sym e i .«high_pass»;
+      fast = sym e i .fast;
+      powers = record { count = deque-count (v .powers) (m .frames) frames i; list = deque-places (v .powers) (m .frames) frames i };
+    }
+
+-- the minimum of an empty window is stored as 0
+window-stored : (f : Floor) (r : RustFloor) → FloorValid f → detector.FloorAgrees f r → f .«window_min» ≡ cond (eqb (r .windowFrames) 0) zero64 (r .windowMin)
+window-stored f r v a = rw (a .windowFrames, a .windowMin) (go (eqb (f .«window_frames») 0) refl)
+  where
+    go : (b : Bool) → eqb (f .«window_frames») 0 ≡ b → f .«window_min» ≡ cond b zero64 (cond b (inf false) (f .«window_min»))
+    go true e = v .empty (eqb-true (f .«window_frames») 0 e)
+    go false e = refl
+
+floor-stored : (f : Floor) (r : RustFloor) → FloorValid f → detector.FloorAgrees f r → f ≡ floorStored r
+floor-stored f r v a = λ i. record {
+  smoothed = sym (a .smoothed) i;
+  «window_min» = window-stored f r v a i;
+  «window_frames» = sym (a .windowFrames) i;
+  minima = record { count = deque-count (v .minima) (r .minima) (a .minima) i; list = deque-places (v .minima) (r .minima) (a .minima) i };
+}
+
+detector-stored : (d : FeatureDetector) (r : RustDetector) → detected.Valid d → detector.Agrees d r → d ≡ detectorStored r
+detector-stored d r v a = λ i. record {
+  filters = sym (a .filters) i;
+  decimated = record {
+    count = deque-count (v .decimated) (latest 240 (r .decimated)) (a .decimated) i;
+    list = deque-places (v .decimated) (latest 240 (r .decimated)) (a .decimated) i;
+  };
+  floor = floor-stored (d .floor) (r .floor) (v .floor) (a .floor) i;
+  history = record { count = deque-count (v .history) (r .history) (a .history) i; list = deque-places (v .history) (r .history) (a .history) i };
+}
+
+strand-stored : (t : Strand) (r : RustVad) → strand.Valid t → Agrees t r → t ≡ strandStored r
+strand-stored t r v a = λ i. record {
+  level = level-stored (t .level) (r .level) (v .level) (a .level) i;
+  detector = detector-stored (t .detector) (r .detector) (v .detector) (a .detector) i;
+  decision = record {
+    active = sym (a .active) i;
+    probability = sym (a .probability) i;
+    onsets = sym (a .onsets) i;
+    offsets = sym (a .offsets) i;
+    hold = sym (a .hold) i;
+    power = sym (a .power) i;
+  };
+}
+
+-- ---- the chain
+
+pub rust-stores : Stores rules Valid rust rust-agrees stored
+unfolding stored
+rust-stores c m v l = λ i. record {
+  settings = sym (l .settings) i;
+  key = strand-stored (c .key) (m .key) (v .key) (l .key) i;
+  bed = strand-stored (c .bed) (m .bed) (v .bed) (l .bed) i;
+  loops = ap (λ (e : AutomixEngine). loopsStored (e .loops)) (sym (l .ducker .engine)) i;
+}

@@ -1,0 +1,4 @@
+pub mod Rules
+pub mod Rust
+pub mod RustState
+pub mod Loudness

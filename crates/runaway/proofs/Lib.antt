@@ -1,0 +1,5 @@
+pub mod LevelTold
+pub mod DetectorTold
+pub mod StrandTold
+pub mod DuckTold
+pub mod Exact
