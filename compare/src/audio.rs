@@ -31,7 +31,7 @@ fn voice(frame: u64, scale: f32) -> Vec<f32> {
     (0..480).map(|n| step(n) * loud).collect()
 }
 
-/// The run that is kept: document 01's two silent frames; a commentator over a tone,
+/// The run that is kept: two silent frames; a commentator over a tone,
 /// then over another voice, that voice alone, the tone alone; samples that aren't
 /// finite; a square wave at the largest f32, silence, and 7 bytes.
 pub fn kept() -> Vec<u8> {

@@ -17,7 +17,7 @@ const DETECTOR: [&str; 4] = [
 const HEAD: &str =
     "# Constants by their bits. Made by: compare/constants > compare/constants.txt, from the
 # Rust's own formulas (LeeO86/mxl-audio-mixer f575066b19: FeatureDetector's filters of
-# src/dsp/biquad.rs, K_SHELF and K_HIGH_PASS) and document 01's stand-ins.
+# src/dsp/biquad.rs, K_SHELF and K_HIGH_PASS) and the specification's stand-ins.
 ";
 
 /// The committed bits of a constant.

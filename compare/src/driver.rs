@@ -1,4 +1,4 @@
-//! Document 01's chain around the Rust: settings, resets, the wiring of a frame
+//! The specification's chain around the Rust: settings, resets, the wiring of a frame
 //! (module 5), refusals, and answers by their bits. image.rs has saves and restores.
 
 use crate::auto::level::Reading;
@@ -18,7 +18,7 @@ const RUNAWAY: Refusal = 4;
 const COUNTER_FULL: Refusal = 5;
 const NO_STRAND: Refusal = 9;
 
-/// The 12 settings in document 01's order; flags are 0 or 1.
+/// The 12 settings in the image's order; flags are 0 or 1.
 #[derive(Debug, Clone, Copy, PartialEq)]
 pub struct Settings {
     /// Threshold, hold_ms and gate_lufs of the key and the bed.
@@ -334,7 +334,7 @@ impl Chain {
         Ok(())
     }
 
-    /// The payload of document 01's image between its edition and its last zeros.
+    /// The payload of the image between its edition and its last zeros.
     pub fn store(&self, to: &mut Words) {
         self.settings.store(to);
         self.running.store(to);

@@ -216,8 +216,8 @@ fn huge() -> Strand {
 }
 
 /// Images with strange words that the rules allow, and frames after them: lists nearly
-/// full, the loops of document 01's trap, an interview, huge loops, powers below 0, the
-/// smallest numbers, zeros with a minus, huge numbers.
+/// full, loops whose total rises in a release, an interview, huge loops, powers below 0,
+/// the smallest numbers, zeros with a minus, huge numbers.
 fn strange() -> Vec<Call> {
     let silent = |foreign, count| heard(foreign, silence(), silence(), count);
     let interview = |loops| {

@@ -1,4 +1,4 @@
-//! Document 01's images: 21 blocks of 64 words around a payload of 1,323 words; saves
+//! The specification's images: 21 blocks of 64 words around a payload of 1,323 words; saves
 //! and restores of a chain.
 
 use crate::driver::{Chain, Refusal};

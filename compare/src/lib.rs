@@ -1,5 +1,5 @@
 //! The comparison Rust (assembled into target/compare/upstream by compare/assemble)
-//! with document 01's stand-ins, and what we build around it.
+//! with the specification's stand-ins, and what we build around it.
 
 #[path = "../../target/compare/upstream/auto/mod.rs"]
 pub mod auto;

@@ -168,7 +168,7 @@ fn bad(strand: usize, index: usize, value: f32) -> Option<Replaced> {
     })
 }
 
-/// Document 01's 500 Hz square wave at the largest f32.
+/// A 500 Hz square wave at the largest f32.
 fn square() -> Signal {
     Signal::new(SQUARE, 96, LOUD)
 }

@@ -1,4 +1,4 @@
-//! Tests of this comparison: document 01's examples of the stand-ins, Rust's own root,
+//! Tests of this comparison: examples of the stand-ins, Rust's own root,
 //! narrowing and round against the same worked out by whole numbers, and that a chain
 //! comes back from its image.
 

@@ -1,4 +1,4 @@
-//! Document 01's stand-ins, written from that document: logarithm and power by
+//! The specification's stand-ins, written from it: logarithm and power by
 //! whole numbers; root, narrowing and `round` are Rust's own operations (nearest
 //! with ties to even, and half away from zero, by IEEE 754 and Rust's manual).
 //!
@@ -186,7 +186,7 @@ impl Standins for f64 {
         match self {
             10.0 => pow10(u),
             60.0 => pow60(u),
-            _ => panic!("document 01 has no stand-in for powers of {self}"),
+            _ => panic!("the specification has no stand-in for powers of {self}"),
         }
     }
     fn doc_square(self) -> f64 {

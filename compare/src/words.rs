@@ -1,4 +1,4 @@
-//! Lists of 64-bit words: written, and read back by document 01's image rules; and
+//! Lists of 64-bit words: written, and read back by the image's rules; and
 //! recorded files: a head of 256 bytes of text, then little-endian words.
 
 use std::collections::VecDeque;

@@ -13,7 +13,7 @@ compare replay answers [SEED COUNT]  writes the Rust's answers to it
 compare audio [COUNT]                writes COUNT frames as duckline reads them: speech, noisy speech;
                                      without COUNT the run that is kept
 compare constants                    prints the constants' table
-compare selftest                     tests root, narrowing, round, images and document 01's examples
+compare selftest                     tests root, narrowing, round, images and examples of the stand-ins
 compare paths                        prints each module and where its recorded file lies";
 
 fn put(bytes: &[u8]) -> Result<(), String> {

@@ -1,4 +1,4 @@
-//! Document 01's duckline of the comparison Rust: 3,840 bytes a frame on standard
+//! The program duckline with the comparison Rust: 3,840 bytes a frame on standard
 //! input (key, then bed, f32 little-endian), a line for each on standard output.
 
 use std::io::{self, Read, Write};

@@ -1,4 +1,4 @@
-/// What document 01's image holds of a detector, and copies of it.
+/// What the specification's image holds of a detector, and copies of it.
 pub trait Inside {
     fn copy(&self) -> Box<dyn Detector>;
     fn store_filters(&self, to: &mut crate::words::Words);
@@ -18,7 +18,7 @@ impl FeatureDetector {
     }
 }
 
-/// Document 01: the comparison build shares the table of coefficients.
+/// As the specification asks, both have the coefficients of one table.
 impl Default for FeatureDetector {
     fn default() -> Self {
         let formula = Self::by_formula();
@@ -92,7 +92,7 @@ impl Vad {
         (self.hold, self.speech_power)
     }
 
-    /// The 628 words of document 01's image.
+    /// The 628 words of the image.
     pub fn store(&self, to: &mut crate::words::Words) {
         self.level.store_filters(to);
         self.detector.store_filters(to);

@@ -3,9 +3,9 @@ use mathlib.Core.List.{List, [], _∷_, _++_}
 use lib.Ieee.{Float}
 use Rattle.level.specs.declared.Level.{Level}
 use Rattle.detector.specs.declared.FeatureDetector.{FeatureDetector}
-use Rattle.detector.specs.declared.Smoothed.{Smoothed}
-use Rattle.detector.specs.declared.Smoothed.the-variants as smoothed
-use Rattle.detector.specs.Detector.{statesOf}
+use Rattle.detector.specs.declared.floor.Smoothed.{Smoothed}
+use Rattle.detector.specs.declared.floor.Smoothed.the-variants as smoothed
+use Rattle.detector.specs.Filters.{statesOf}
 use Rattle.vad.specs.declared.VadSettings.{VadSettings}
 use Rattle.vad.specs.declared.Decision.{Decision}
 use Rattle.vad.specs.declared.SpeechPower.{SpeechPower}

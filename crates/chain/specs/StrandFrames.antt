@@ -9,7 +9,7 @@ use Rattle.float.specs.AllFinite.{allFinite}
 use Rattle.level.specs.declared.Weighing.{Weighing}
 use Rattle.level.specs.Weighing as weighing
 use Rattle.level.specs.Level as level
-use Rattle.detector.specs.declared.Bands.{Bands}
+use Rattle.detector.specs.declared.filters.Bands.{Bands}
 use Rattle.detector.specs.Filters as filters
 use Rattle.detector.specs.Detector as detector
 use Rattle.vad.specs.declared.VadSettings.{VadSettings}

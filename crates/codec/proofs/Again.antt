@@ -3,7 +3,7 @@ use mathlib.Core.Path.{_≡_, refl, sym, ap, _∙_, subst}
 use mathlib.Core.Bool.{Bool, true, false, cond, not}
 use mathlib.Core.Option.{none, some}
 use mathlib.Core.List.{List, [], _∷_, _++_, map}
-use Prim.Native.Nat.{ℕ, zero, suc, _+_, _-_, _*_, _^_, _%_, _≤_, _<_}
+use Prim.Native.Nat.{ℕ, zero, suc, _+_, _-_, _*_, _%_, _≤_, _<_}
 use native.Mathlib.Nat.{add-zero, zero-add, le-of-suc-le-suc, lt-of-not-le}
 use native.Mathlib.Decide.{decLe}
 use native.Mathlib.Omega.{arith}
@@ -12,14 +12,15 @@ use lib.Dec.{T, ltb, eqb, lit<}
 use lib.ListN.{length, getD, length-append, length-map, List·getD-append}
 use lib.Seq.{ext-getD, getD-append-add}
 use lib.Ieee.{Float, Format, top, ofBits, toBits}
-use lib.Ieee.Bits.{ofBits-toBits, toBits-lt, toBits-ofBits, nanBits-is}
+use lib.Ieee.Bits.{is-true, ofBits-toBits, toBits-lt, toBits-ofBits, nanBits-is}
 use lib.Ieee.Scale.{finite}
 use Rattle.blocks.specs.Lists.{table}
 use Rattle.blocks.proofs.Lists.{length-table, getD-table, getD-map}
 use Rattle.codec.specs.Fields.{infinite, numOf, capped, flagBits, ruled}
-use Rattle.codec.specs.Codec.{Here, Cell, Codec, valueAt, maybeEnc, maybeOf}
-use Rattle.codec.specs.Kept.{here-all, here-head, here-front, here-rest, T-true, true-T, ruled-same, ruled-other, capped-same, capped-lt, ofBits-finite, numOf-num, value-in, value-out}
+use Rattle.codec.specs.Codec.{Here, Cell, Codec, CodecLaws, valueAt, maybeEnc, maybeOf}
 use Rattle.codec.specs.Forms.{float, below, flag, one, pair, as-a, also, counted, maybe}
+use Rattle.codec.proofs.Kept.{here-all, here-head, here-front, here-rest, true-T, ruled-same, ruled-other, capped-same, capped-lt, ofBits-finite, numOf-num}
+use Rattle.codec.proofs.Forms.{value-in, value-out}
 use Rattle.codec.proofs.Numbers.{numOf-in, no-nan}
 
 -- each from the other
@@ -67,40 +68,38 @@ here-join {l} {i} {n} xs ys e h g = record { at = go }
 
 -- ---- the forms
 
-module _ {A : Type 0} (c : Codec A) (l : List ℕ) (i : ℕ) where
-  read-size : length (c .enc (c .dec l i)) ≡ c .size
-  read-size = c .size-is (c .dec l i) (c .shaped (c .dec l i) (c .sound l i))
+read-size : {A : Type 0} {c : Codec A} → CodecLaws c → (l : List ℕ) (i : ℕ) → length (c .enc (c .dec l i)) ≡ c .size
+read-size {A} {c} q l i = q .size-is (c .dec l i) (q .sound l i)
 
 -- a whole list
-pub reads-all : {A : Type 0} (c : Codec A) (l : List ℕ) → length l ≡ c .size → Iff (Reads c l 0) (c .enc (c .dec l 0) ≡ l)
-reads-all c l e = (
-  (λ h. sym (ext-getD 0 l (c .enc (c .dec l 0)) (e ∙ sym (read-size c l 0)) (λ k b. sym (ap (λ (n : ℕ). getD l n 0) (zero-add k)) ∙ h .at k (omega (arith, read-size c l 0))))),
-  λ q. subst (Here l 0) (sym q) (here-all l),
+pub reads-all : {A : Type 0} {c : Codec A} → CodecLaws c → (l : List ℕ) → length l ≡ c .size → Iff (Reads c l 0) (c .enc (c .dec l 0) ≡ l)
+reads-all {A} {c} q l e = (
+  (λ h. sym (ext-getD 0 l (c .enc (c .dec l 0)) (e ∙ sym (read-size q l 0)) (λ k b. sym (ap (λ (n : ℕ). getD l n 0) (zero-add k)) ∙ h .at k (omega (arith, read-size q l 0))))),
+  λ r. subst (Here l 0) (sym r) (here-all l),
 )
 
 pub reads-one : {A : Type 0} (c : Cell A) (l : List ℕ) (i : ℕ) → Iff (Reads (one c) l i) (Kept c (getD l i 0))
 reads-one c l i = ((λ h. sym (here-head h)), λ e. here-cons (sym e) (here-none l (i + 1)))
 
 -- n words, and what follows them at place j
-pub reads-pair : {A B : Type 0} (c : Codec A) (d : Codec B) (l : List ℕ) (i n j : ℕ) → c .size ≡ n → i + n ≡ j → Iff (Reads (pair c d) l i) (Reads c l i × Reads d l j)
-reads-pair c d l i n j e f =
+pub reads-pair : {A B : Type 0} {c : Codec A} → CodecLaws c → (d : Codec B) (l : List ℕ) (i n j : ℕ) → c .size ≡ n → i + n ≡ j → Iff (Reads (pair c d) l i) (Reads c l i × Reads d l j)
+reads-pair {A} {B} {c} r d l i n j e f =
     let q : i + c .size ≡ j = ap (λ (m : ℕ). i + m) e ∙ f in
     let xs = c .enc (c .dec l i) in
     let ys = d .enc (d .dec l (i + c .size)) in (
-      (λ h. (here-front xs ys h, subst (λ (m : ℕ). Reads d l m) q (here-rest xs ys (read-size c l i) h))),
-      λ p. here-join xs ys (read-size c l i) (p .0) (subst (λ (m : ℕ). Reads d l m) (sym q) (p .1)),
+      (λ h. (here-front xs ys h, subst (λ (m : ℕ). Reads d l m) q (here-rest xs ys (read-size r l i) h))),
+      λ p. here-join xs ys (read-size r l i) (p .0) (subst (λ (m : ℕ). Reads d l m) (sym q) (p .1)),
     )
 
-pub reads-as-a : {A B : Type 0} (f : B → A) (g : A → B) (fg : (a : A) → f (g a) ≡ a) (gf : (b : B) → g (f b) ≡ b) (c : Codec A) (l : List ℕ) (i : ℕ)
-    → Iff (Reads (as-a f g fg gf c) l i) (Reads c l i)
-reads-as-a f g fg gf c l i = (
+pub reads-as-a : {A B : Type 0} (f : B → A) (g : A → B) → ((a : A) → f (g a) ≡ a) → (c : Codec A) (l : List ℕ) (i : ℕ) → Iff (Reads (as-a f g c) l i) (Reads c l i)
+reads-as-a f g fg c l i = (
   (λ h. subst (λ (x : _). Here l i (c .enc x)) (fg (c .dec l i)) h),
   λ h. subst (λ (x : _). Here l i (c .enc x)) (sym (fg (c .dec l i))) h,
 )
 
-pub reads-also : {A : Type 0} (p : A → Bool) (d : A) (c : Codec A) (okd : c .Ok d) (td : T (p d)) (l : List ℕ) (i : ℕ)
-    → Iff (Reads (also p d c okd td) l i) (Reads c l i × T (p (c .dec l i)))
-reads-also {A} p d c okd td l i = ((λ h. go (p x) refl h), λ q. subst (λ (y : A). Here l i (c .enc y)) (sym (ruled-same p d x (q .1))) (q .0))
+pub reads-also : {A : Type 0} (p : A → Bool) (d : A) {c : Codec A} → CodecLaws c → c .Ok d → T (p d) → (l : List ℕ) (i : ℕ)
+    → Iff (Reads (also p d c) l i) (Reads c l i × T (p (c .dec l i)))
+reads-also {A} p d {c} r okd td l i = ((λ h. go (p x) refl h), λ q. subst (λ (y : A). Here l i (c .enc y)) (sym (ruled-same p d x (q .1))) (q .0))
   where
     x : A
     x = c .dec l i
@@ -108,7 +107,7 @@ reads-also {A} p d c okd td l i = ((λ h. go (p x) refl h), λ q. subst (λ (y :
     go : (b : Bool) → p x ≡ b → Here l i (c .enc (ruled p d x)) → Here l i (c .enc x) × T (p x)
     go true e h = (subst (λ (y : A). Here l i (c .enc y)) (ruled-same p d x (true-T e)) h, true-T e)
     go false e h =
-        let q : x ≡ d = c .back d l i okd (subst (λ (y : A). Here l i (c .enc y)) (ruled-other p d x e) h) in
+        let q : x ≡ d = r .back d l i okd (subst (λ (y : A). Here l i (c .enc y)) (ruled-other p d x e) h) in
         (subst (λ (y : A). Here l i (c .enc y)) (ruled-other p d x e ∙ sym q) h, subst (λ (y : A). T (p y)) (sym q) td)
 
 -- a count of at most n, that many values, and 0 in the other places
@@ -117,7 +116,7 @@ pub record Listed {A : Type 0} (c : Cell A) (n : ℕ) (l : List ℕ) (i : ℕ) :
   pub values : (k : ℕ) → k < getD l i 0 → Kept c (getD l (i + 1 + k) 0)
   pub rest : (k : ℕ) → getD l i 0 ≤ k → k < n → getD l (i + 1 + k) 0 ≡ c .bits (c .blank)
 
-module _ {A : Type 0} (c : Cell A) (n : ℕ) (q : n < 2 ^ 64) (l : List ℕ) (i : ℕ) where
+module _ {A : Type 0} (c : Cell A) (n : ℕ) (l : List ℕ) (i : ℕ) where
   abbrev num : ℕ
   num = getD l i 0
 
@@ -151,7 +150,7 @@ module _ {A : Type 0} (c : Cell A) (n : ℕ) (q : n < 2 ^ 64) (l : List ℕ) (i 
       go k g true e = sym (ap (c .bits) (value-in c l (i + 1) num k (ltb-true k num e)) ∙ r .values k (ltb-true k num e))
       go k g false e = r .rest k (ltb-false k num e) g ∙ sym (ap (c .bits) (value-out c l (i + 1) num k (ltb-false k num e)))
 
-  pub reads-counted : Iff (Reads (counted c n q) l i) (Listed c n l i)
+  pub reads-counted : Iff (Reads (counted c n) l i) (Listed c n l i)
   reads-counted = (
     (λ h.
         let m = capped (suc n) num in
@@ -205,13 +204,13 @@ kept-float f w = (
         subst (λ (x : Float). T (finite x)) (sym (ofBits-toBits f (numOf f w) (n .1)) ∙ ap (ofBits f) e) (n .0),
       )),
   λ p.
-      let h : w % top f < infinite f = ltb-true (w % top f) (infinite f) (sym (ofBits-finite f w) ∙ T-true (finite (ofBits f w)) (p .1)) in
+      let h : w % top f < infinite f = ltb-true (w % top f) (infinite f) (sym (ofBits-finite f w) ∙ is-true (finite (ofBits f w)) (p .1)) in
       ap (toBits f) (numOf-in f w h (p .0)) ∙ toBits-ofBits f w (p .0) (subst (λ (b : Bool). T (not b)) (nanBits-is f w) (no-nan f w h)),
 )
 
 -- a number below n
-pub kept-below : (n : ℕ) (p : 0 < n) (q : n ≤ 2 ^ 64) (w : ℕ) → Iff (Kept (below n p q) w) (w < n)
-kept-below n p q w = ((λ e. subst (λ (m : ℕ). m < n) e (capped-lt n w p)), λ h. capped-same n w h)
+pub kept-below : (n w : ℕ) → 0 < n → Iff (Kept (below n) w) (w < n)
+kept-below n w p = ((λ e. subst (λ (m : ℕ). m < n) e (capped-lt n w p)), λ h. capped-same n w h)
 
 -- a flag
 pub kept-flag : (w : ℕ) → Iff (Kept flag w) (w < 2)

@@ -1,4 +1,4 @@
--- What a codec is: how a value is written as words and read back, with the laws of the two. Definitions only.
+-- What a codec is: how a value is written as words and read back, which values it holds, and the laws of the two. Definitions only.
 -- `dec` is total: words that break a rule are read as some good value, whose words differ from those read.
 -- So words are accepted exactly where writing what was read gives them again.
 use mathlib.Core.Path.{_≡_}
@@ -14,29 +14,32 @@ use Rattle.blocks.specs.Lists.{Words}
 pub record Here (l : List ℕ) (i : ℕ) (xs : List ℕ) : Type 0 where
   pub at : (k : ℕ) → k < length xs → getD l (i + k) 0 ≡ getD xs k 0
 
--- a value of one word
+-- a value of one word; `blank` is what stands in an unused place
 pub record Cell (A : Type 0) : Type 1 where
   pub bits : A → ℕ
   pub read : ℕ → A
   pub Good : A → Type 0
   pub blank : A
-  pub read-bits : (a : A) → Good a → read (bits a) ≡ a
-  pub read-good : (w : ℕ) → Good (read w)
-  pub blank-good : Good blank
-  pub bits-small : (a : A) → Good a → bits a < 2 ^ 64
 
--- a value of `size` words. `Shape` says that its lists have as many places as there are words for, which an array always has; `Ok` that it is good
+pub record CellLaws {A : Type 0} (c : Cell A) : Type 0 where
+  pub read-bits : (a : A) → c .Good a → c .read (c .bits a) ≡ a
+  pub read-good : (w : ℕ) → c .Good (c .read w)
+  pub blank-good : c .Good (c .blank)
+  pub bits-small : (a : A) → c .Good a → c .bits a < 2 ^ 64
+
+-- a value of `size` words
 pub record Codec (A : Type 0) : Type 1 where
   pub size : ℕ
   pub enc : A → List ℕ
   pub dec : List ℕ → ℕ → A
-  pub Shape : A → Type 0
   pub Ok : A → Type 0
-  pub shaped : (a : A) → Ok a → Shape a
-  pub size-is : (a : A) → Shape a → length (enc a) ≡ size
-  pub back : (a : A) (l : List ℕ) (i : ℕ) → Ok a → Here l i (enc a) → dec l i ≡ a
-  pub sound : (l : List ℕ) (i : ℕ) → Ok (dec l i)
-  pub small : (a : A) → Ok a → Words (enc a)
+
+-- a good value takes `size` words, each of 64 bits, and is read back from wherever they stand; whatever the words, a good value is read
+pub record CodecLaws {A : Type 0} (c : Codec A) : Type 0 where
+  pub size-is : (a : A) → c .Ok a → length (c .enc a) ≡ c .size
+  pub back : (a : A) (l : List ℕ) (i : ℕ) → c .Ok a → Here l i (c .enc a) → c .dec l i ≡ a
+  pub sound : (l : List ℕ) (i : ℕ) → c .Ok (c .dec l i)
+  pub small : (a : A) → c .Ok a → Words (c .enc a)
 
 -- value k of m, read from the words from place i on
 unfoldable pub valueAt : {A : Type 0} → Cell A → List ℕ → ℕ → ℕ → ℕ → A

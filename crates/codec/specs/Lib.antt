@@ -1,4 +1,4 @@
 pub mod Fields
+pub mod Run
 pub mod Codec
-pub mod Kept
 pub mod Forms

@@ -1,15 +1,16 @@
 // Numbers as words of a slice, and words as numbers. Each function is total: a word without a place is dropped, one that
 // isn't there reads as 0, and a word that breaks a rule is read as some good value.
 ghost use mathlib.Core.Path.{_≡_};
-ghost use mathlib.Core.List.{_∷_, [], map};
-ghost use Prim.Native.Nat.{_+_};
+ghost use mathlib.Core.Option.{some};
+ghost use mathlib.Core.List.{_∷_, []};
+ghost use Prim.Native.Nat.{suc, _+_};
 ghost use lib.Dec.{eqb};
 ghost use lib.ListN.{length, getD, set, replicate};
 ghost use lib.Ieee.{binary32, binary64, toBits};
-ghost use Rattle.blocks.specs.Lists.{Laid, table};
+ghost use Rattle.blocks.specs.Lists.{Laid};
 ghost use Rattle.codec.specs.Fields.{numOf, capped, flagBits};
 ghost use Rattle.codec.specs.Codec.{valueAt};
-ghost use Rattle.codec.specs.Forms.{f64, f32};
+ghost use Rattle.codec.specs.Forms.{f64, f32, counted, maybe};
 
 const SIGN64: u64 = 0x8000_0000_0000_0000;
 
@@ -65,25 +66,12 @@ pub fn put_flag(w: &mut [u64], at: usize, b: bool)
     put(w, at, flag_bits(b));
 }
 
-// A list of numbers, from place `at` on.
-pub fn put_all(w: &mut [u64], at: usize, v: &[f64])
-    ensures { λ _. ⌜ Laid (now (w .entry)) at (map (toBits binary64) (now (v .entry))) (now (w .exit)) ⌝ }
+// The number of a value or none, where there is one. Where there is none, its two words are zeros.
+pub fn put_some(w: &mut [u64], at: usize, x: f64)
+    ensures { λ _. ⌜ Laid (now (w .entry)) at (maybe f64 .enc (some x)) (now (w .exit)) ⌝ }
 {
-    let mut k: usize = 0;
-    while k < v.len() {
-        store(w, at, k, float::to_bits(v[k]));
-        k += 1;
-    }
-}
-
-pub fn put_all32(w: &mut [u64], at: usize, v: &[f32])
-    ensures { λ _. ⌜ Laid (now (w .entry)) at (map (toBits binary32) (now (v .entry))) (now (w .exit)) ⌝ }
-{
-    let mut k: usize = 0;
-    while k < v.len() {
-        store(w, at, k, float::to_bits32(v[k]) as u64);
-        k += 1;
-    }
+    put(w, at, 1);
+    store(w, at, 1, float::to_bits(x));
 }
 
 // n zeros, from place `at` on.
@@ -172,42 +160,82 @@ pub fn get_flag(w: &[u64], at: usize) -> bool
     get(w, at) == 1
 }
 
-// Number k of the n from place `at` on, and 0 past them.
+// ---- lists of numbers: a count, and the numbers; 0 stands in the places after them
+
+// The count and the places v, from place `at` on.
+pub fn put_list(w: &mut [u64], at: usize, count: usize, v: &[f64])
+    ensures { λ _. ⌜ Laid (now (w .entry)) at (counted f64 (length (now (v .entry))) .enc (count, now (v .entry))) (now (w .exit)) ⌝ }
+{
+    put(w, at, count as u64);
+    let mut k: usize = 0;
+    while k < v.len() {
+        store(w, at, k + 1, float::to_bits(v[k]));
+        k += 1;
+    }
+}
+
+pub fn put_list32(w: &mut [u64], at: usize, count: usize, v: &[f32])
+    ensures { λ _. ⌜ Laid (now (w .entry)) at (counted f32 (length (now (v .entry))) .enc (count, now (v .entry))) (now (w .exit)) ⌝ }
+{
+    put(w, at, count as u64);
+    let mut k: usize = 0;
+    while k < v.len() {
+        store(w, at, k + 1, float::to_bits32(v[k]) as u64);
+        k += 1;
+    }
+}
+
+// The count at place `at` of a list of at most `most` numbers; a larger one counts as 0.
+fn count(w: &[u64], at: usize, most: usize) -> usize
+    ensures { λ r. ⌜ r ≡ capped (suc most) (getD (now (w .entry)) at 0) ⌝ }
+{
+    let n = get(w, at);
+    if n <= most as u64 {
+        return n as usize;
+    }
+    0
+}
+
+// Number k of the n behind place `at`, and 0 past them.
 fn value64(w: &[u64], at: usize, n: usize, k: usize) -> f64
-    ensures { λ r. ⌜ r ≡ valueAt f64 (now (w .entry)) at n k ⌝ }
+    ensures { λ r. ⌜ r ≡ valueAt f64 (now (w .entry)) (at + 1) n k ⌝ }
 {
     if k < n {
-        return num64(word(w, at, k));
+        return num64(word(w, at, k + 1));
     }
     0.0
 }
 
 fn value32(w: &[u64], at: usize, n: usize, k: usize) -> f32
-    ensures { λ r. ⌜ r ≡ valueAt f32 (now (w .entry)) at n k ⌝ }
+    ensures { λ r. ⌜ r ≡ valueAt f32 (now (w .entry)) (at + 1) n k ⌝ }
 {
     if k < n {
-        return num32(word(w, at, k));
+        return num32(word(w, at, k + 1));
     }
     0.0
 }
 
-// The n numbers from place `at` on in the first places of v, and 0 in the rest.
-pub fn get_all(w: &[u64], at: usize, n: usize, v: &mut [f64])
-    ensures { λ _. ⌜ now (v .exit) ≡ table (valueAt f64 (now (w .entry)) at n) (length (now (v .entry))) ⌝ }
+// The list from place `at` on: its count, and its numbers in the first places of v.
+pub fn get_list(w: &[u64], at: usize, v: &mut [f64]) -> usize
+    ensures { λ r. ⌜ (r, now (v .exit)) ≡ counted f64 (length (now (v .entry))) .dec (now (w .entry)) at ⌝ }
 {
+    let n = count(w, at, v.len());
     let mut k: usize = 0;
     while k < v.len() {
         v[k] = value64(w, at, n, k);
         k += 1;
     }
+    n
 }
 
-pub fn get_all32(w: &[u64], at: usize, n: usize, v: &mut [f32])
-    ensures { λ _. ⌜ now (v .exit) ≡ table (valueAt f32 (now (w .entry)) at n) (length (now (v .entry))) ⌝ }
+pub fn get_list32(w: &[u64], at: usize, v: &mut [f32]) -> usize
+    ensures { λ r. ⌜ (r, now (v .exit)) ≡ counted f32 (length (now (v .entry))) .dec (now (w .entry)) at ⌝ }
 {
+    let n = count(w, at, v.len());
     let mut k: usize = 0;
     while k < v.len() {
         v[k] = value32(w, at, n, k);
         k += 1;
     }
+    n
 }

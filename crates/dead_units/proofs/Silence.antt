@@ -10,7 +10,7 @@ use Rattle.level.specs.declared.Framed as metered
 use Rattle.level.specs.declared.Weighing.{Weighing}
 use Rattle.level.specs.Weighing as weighing
 use Rattle.level.specs.Level as level
-use Rattle.detector.specs.declared.Bands.{Bands}
+use Rattle.detector.specs.declared.filters.Bands.{Bands}
 use Rattle.detector.specs.declared.Heard.{Heard}
 use Rattle.detector.specs.Filters as filters
 use Rattle.detector.specs.Detector as detector

@@ -95,7 +95,7 @@ unfolding
     lateOf strand.finishOf decision.heardOf decision.smoothedOf decision.offOf decision.onsetOf decision.offsetOf decision.switchOf decision.meanOf decision.voicedOf decision.decideOf decision.fullOf
     state.tenthsOf state.hundredthsOf state.roundedOf state.speechLevelOf state.stateOf state.powerNumber state.levelNumber
     level.finishOf level.readOf level.joinedOf level.pushOf level.meansOf level.sumOf level.meanOver level.lufsOf level.zeros level.startOf weighing.runOf weighing.stepOf loudness newest
-    detector.finishOf detector.powersOf detector.noDecimated detector.noMinima detector.noHistory detector.shownOf detector.probabilityOf
+    detector.finishOf detector.powersOf filters.noDecimated floor.noMinima modulation.noHistory detector.shownOf detector.probabilityOf
     filters.runOf filters.stepOf filters.outputsOf filters.keptOf filters.keepOf filters.eighths tickOf
     floor.floorOf floor.smoothedOf floor.windowMinOf floor.storedOf floor.leastOf floor.lowestOf floor.minimaOf
     modulation.modulationOf modulation.historyOf modulation.varianceOf modulation.meanOf modulation.deviationsOf modulation.totalOf

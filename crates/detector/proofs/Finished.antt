@@ -9,19 +9,19 @@ use lib.Ieee.{Float}
 use Rattle.float.specs.Arithmetic.{zero64}
 use Rattle.float.specs.AllFinite.{allFinite}
 use Rattle.sequence.specs.History.{held, laid}
-use Rattle.detector.specs.declared.Bands.{Bands}
-use Rattle.detector.specs.declared.Decimated.{Decimated}
+use Rattle.detector.specs.declared.filters.Bands.{Bands}
+use Rattle.detector.specs.declared.filters.Decimated.{Decimated}
 use Rattle.detector.specs.declared.FramePowers.{FramePowers}
-use Rattle.detector.specs.declared.Floored.{Floored}
-use Rattle.detector.specs.declared.Modulated.{Modulated}
-use Rattle.detector.specs.declared.Voicing.{Voicing}
+use Rattle.detector.specs.declared.floor.Floored.{Floored}
+use Rattle.detector.specs.declared.modulation.Modulated.{Modulated}
+use Rattle.detector.specs.declared.voicing.Voicing.{Voicing}
 use Rattle.detector.specs.declared.Frame.{Frame}
 use Rattle.detector.specs.declared.FeatureDetector.{FeatureDetector}
-use Rattle.detector.specs.Filters.{noSamples, samplesOf, outputsOf, keptOf, keepOf}
+use Rattle.detector.specs.Filters.{noSamples, samplesOf, statesOf, outputsOf, keptOf, keepOf}
 use Rattle.detector.specs.Floor.{floorOf}
 use Rattle.detector.specs.Modulation.{modulationOf}
 use Rattle.detector.specs.Voicing.{voicingOf}
-use Rattle.detector.specs.Detector.{powersOf, statesOf, numbersOf, shownOf, finishOf}
+use Rattle.detector.specs.Detector.{powersOf, numbersOf, shownOf, finishOf}
 use Rattle.detector.proofs.Decimation.{kept-finite}
 use Rattle.detector.proofs.Outputs.{outputs-length}
 

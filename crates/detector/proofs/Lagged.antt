@@ -10,8 +10,9 @@ use lib.Seq.{drop-cons, getD-set-same, getD-set-other}
 use borrow.Author.Count.{below-more}
 use lib.Ieee.{Float, nan}
 use Rattle.float.specs.Arithmetic.{_⊕_, _⊗_, zero64}
-use Rattle.detector.specs.declared.Eight.{Eight}
-use Rattle.detector.specs.Voicing.{productsFrom, correlationOf, Correlations}
+use Rattle.detector.specs.declared.voicing.Eight.{Eight}
+use Rattle.detector.specs.Voicing.{productsFrom, correlationOf}
+use Rattle.detector.specs.EightLags.{Correlations}
 
 -- nothing is left of the second list
 none-left : (s : Float) (xs ys : List Float) → length ys ≡ 0 → s ≡ productsFrom s xs ys

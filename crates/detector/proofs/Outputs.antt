@@ -6,7 +6,7 @@ use mathlib.Core.List.{List, [], _∷_, _++_, append-nil, append-assoc}
 use lib.ListN.{length, take, drop, getD, set, drop-of-length-le}
 use lib.Seq.{take-suc-set, drop-cons}
 use lib.Ieee.{Float, nan}
-use Rattle.detector.specs.declared.Bands.{Bands}
+use Rattle.detector.specs.declared.filters.Bands.{Bands}
 use Rattle.detector.specs.Filters.{stepOf, outputsOf}
 
 pub outputs-length : (s : Bands) (xs : List Float) → length (outputsOf s xs) ≡ length xs

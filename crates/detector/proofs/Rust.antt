@@ -6,7 +6,7 @@ use mathlib.Core.Bool.{Bool, true, false, cond}
 use mathlib.Core.List.{List, [], _∷_, _++_, foldl, map}
 use lib.Dec.{T, ltb, eqb}
 use lib.ListN.{length, length-replicate}
-use lib.Ieee.{Float, nan, inf, fin, binary32, lt, ofInt, ofBits}
+use lib.Ieee.{Float, nan, inf, fin, binary32, lt, ofBits}
 use lib.Ieee.Scale.{finite}
 use borrow.Author.Tests.{le-ltb, eq-eqb, ne-eqb, ltb-true, ltb-false}
 use Rattle.float.specs.Choice.{minOf}
@@ -14,23 +14,23 @@ use Rattle.narrow.specs.Narrow.{narrowOf}
 use Rattle.sequence.specs.History.{latest, pushed, held, countAfter, placesAfter}
 use Rattle.sequence.proofs.Latest.{latest-all, latest-size, latest-length, latest-latest, latest-append, pushes-block, shorter-block, pushes-latest}
 use Rattle.sequence.proofs.Places.{held-after, held-pushes, places-length}
-use Rattle.detector.specs.declared.Bands.{Bands}
-use Rattle.detector.specs.declared.Decimated.{Decimated}
-use Rattle.detector.specs.declared.Floor.{Floor}
-use Rattle.detector.specs.Filters.{begun, runOf, outputsOf, eighths, keptOf, keepOf}
-use Rattle.detector.specs.declared.Smoothed.{Smoothed}
-use Rattle.detector.specs.Floor.{smoothedOf, windowMinOf, minimaOf, lowestOf, leastOf, nextOf, storedOf, floorOf}
+use Rattle.detector.specs.declared.filters.Bands.{Bands}
+use Rattle.detector.specs.declared.filters.Decimated.{Decimated}
+use Rattle.detector.specs.declared.floor.Floor.{Floor}
+use Rattle.detector.specs.Filters.{begun, runOf, outputsOf, noDecimated, eighths, keptOf, keepOf}
+use Rattle.detector.specs.declared.floor.Smoothed.{Smoothed}
+use Rattle.detector.specs.Floor.{noMinima, smoothedOf, windowMinOf, minimaOf, lowestOf, leastOf, nextOf, storedOf, floorOf}
 use Rattle.detector.specs.Agrees.{FloorAgrees, Agrees}
 use Rattle.detector.specs.Voicing.{voicingOf}
 use Rattle.detector.specs.Rust.{sampled, sampleOf, RustFloor, rustStored, rustFloor, RustDetector, rustFeatures, rustHeard, rustFrame, rustFresh}
-use Rattle.detector.specs.declared.Filters.{Filters}
+use Rattle.detector.specs.declared.filters.Filters.{Filters}
 use Rattle.detector.specs.declared.Heard.{Heard}
 use Rattle.detector.specs.declared.Frame.{Frame}
-use Rattle.detector.specs.declared.Voicing.{Voicing}
+use Rattle.detector.specs.declared.voicing.Voicing.{Voicing}
 use Rattle.detector.specs.declared.FeatureDetector.{FeatureDetector}
 use Rattle.detector.specs.Steps.{dbOf}
-use Rattle.detector.specs.Modulation.{historyOf, modulationOf}
-use Rattle.detector.specs.Detector.{noDecimated, noMinima, noHistory, freshOf, frame64, powersOf, withFeatures, shownOf, finishOf, frameOf}
+use Rattle.detector.specs.Modulation.{noHistory, historyOf, modulationOf}
+use Rattle.detector.specs.Detector.{freshOf, frame64, powersOf, withFeatures, shownOf, finishOf, frameOf}
 use Rattle.float.specs.Arithmetic.{zero64, whole}
 use Rattle.level.proofs.Finite.{all-at}
 use Rattle.detector.proofs.Finished.{samples-all}
@@ -153,10 +153,6 @@ module _ (f : Floor) (r : RustFloor) (a : FloorAgrees f r) (e : Float) (ok : T (
 
 -- ---- a frame
 
-frame-size : whole 480 ≡ frame64
-unfolding ofInt ofBits
-frame-size = refl
-
 module _ (d : FeatureDetector) (r : RustDetector) (a : Agrees d r) (xs : List Float) (n : length xs ≡ 480) where
   abbrev ran : Bands
   ran = runOf (begun (d .filters)) xs
@@ -181,7 +177,7 @@ module _ (d : FeatureDetector) (r : RustDetector) (a : Agrees d r) (xs : List Fl
       ∙ sampled-run 60 (begun (d .filters)) (r .decimated) xs (omega arith)
 
   count : whole (max (length xs) 1) ≡ frame64
-  count = ap (λ (k : ℕ). whole (max k 1)) n ∙ frame-size
+  count = ap (λ (k : ℕ). whole (max k 1)) n
 
   rust : rustFrame r xs ≡ rustHeard r (sampled ran 0 deque) (dbOf (powersOf ran .full)) e (rustFloor (r .floor) e) (pushed 40 (r .history) e)
   unfolding rustFrame powersOf

@@ -11,8 +11,8 @@ use borrow.Author.Tests.{lt-ltb, le-ltb}
 use Rattle.float.specs.Arithmetic.{zero64}
 use Rattle.sequence.specs.History.{held, latest}
 use Rattle.sequence.proofs.Latest.{latest-all}
-use Rattle.detector.specs.declared.Ends.{Ends}
-use Rattle.detector.specs.declared.Voicing.{Voicing}
+use Rattle.detector.specs.declared.voicing.Ends.{Ends}
+use Rattle.detector.specs.declared.voicing.Voicing.{Voicing}
 use Rattle.detector.specs.Voicing.{squared, energyFrom, energyOf, lagOf, lagsOf, unevenOf, silent, endsOf, startOf, windowOf, voicingOf}
 
 -- one lag is done, n are left

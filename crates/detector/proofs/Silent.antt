@@ -7,8 +7,9 @@ use mathlib.Core.List.{List, [], _∷_, _++_, foldl, append-nil, append-assoc}
 use lib.ListN.{length, take, set, replicate}
 use lib.Seq.{take-suc-set, take-all}
 use lib.Ieee.{Float}
-use Rattle.detector.specs.declared.Bands.{Bands}
-use Rattle.detector.specs.Filters.{stepOf, runOf, outputsOf, Quiet}
+use Rattle.detector.specs.declared.filters.Bands.{Bands}
+use Rattle.detector.specs.Filters.{stepOf, runOf, outputsOf}
+use Rattle.detector.specs.Rest.{Quiet}
 
 still-run : (s : Bands) (v : Float) (n : ℕ) → stepOf s v ≡ s → foldl stepOf s (replicate n v) ≡ s
 still-run s v zero h = refl

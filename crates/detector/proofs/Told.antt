@@ -6,13 +6,13 @@ use lib.Ieee.{Float}
 use lib.Ieee.Fits.{and-l, and-r}
 use Rattle.sequence.specs.History.{held}
 use Rattle.float.specs.AllFinite.{allFinite}
-use Rattle.detector.specs.declared.Bands.{Bands}
+use Rattle.detector.specs.declared.filters.Bands.{Bands}
 use Rattle.detector.specs.declared.FeatureDetector.{FeatureDetector}
-use Rattle.detector.specs.Filters.{handedOf, keptOf, keepOf}
+use Rattle.detector.specs.Filters.{statesOf, handedOf, keptOf, keepOf}
 use Rattle.detector.specs.Floor.{floorOf}
 use Rattle.detector.specs.Modulation.{modulationOf}
 use Rattle.detector.specs.Voicing.{voicingOf}
-use Rattle.detector.specs.Detector.{statesOf, powersOf, numbersOf, finishOf}
+use Rattle.detector.specs.Detector.{powersOf, numbersOf, finishOf}
 
 module _ (d : FeatureDetector) (s : Bands) (ys : List Float) where
   abbrev pub numbers : List Float

@@ -17,18 +17,18 @@ use Rattle.sequence.proofs.Counted.{counted-none, counted-more}
 use Rattle.float.specs.Arithmetic.{_⊗_, zero64, ten64}
 use Rattle.logarithm.specs.Logarithm.{log10Of}
 use Rattle.level.proofs.Finite.{all-at}
-use Rattle.detector.specs.declared.Filters.{Filters}
-use Rattle.detector.specs.declared.Bands.{Bands}
-use Rattle.detector.specs.declared.Smoothed.{Smoothed}
-use Rattle.detector.specs.declared.Smoothed.the-variants.{Unset, At}
-use Rattle.detector.specs.declared.Floor.{Floor}
-use Rattle.detector.specs.declared.Floored.{Floored}
+use Rattle.detector.specs.declared.filters.Filters.{Filters}
+use Rattle.detector.specs.declared.filters.Bands.{Bands}
+use Rattle.detector.specs.declared.floor.Smoothed.{Smoothed}
+use Rattle.detector.specs.declared.floor.Smoothed.the-variants.{Unset, At}
+use Rattle.detector.specs.declared.floor.Floor.{Floor}
+use Rattle.detector.specs.declared.floor.Floored.{Floored}
 use Rattle.detector.specs.declared.FeatureDetector.{FeatureDetector}
 use Rattle.detector.specs.Steps.{silenceDb, dbOf}
-use Rattle.detector.specs.Filters.{begun, stepOf, runOf, outputsOf, samplesOf, keptOf, keepOf}
-use Rattle.detector.specs.Floor.{smoothedOf, windowMinOf, minimaOf, nextOf, storedOf, floorOf}
-use Rattle.detector.specs.Modulation.{historyOf, modulationOf}
-use Rattle.detector.specs.Detector.{noDecimated, noMinima, noHistory, freshOf, statesOf, powersOf, finishOf, frameOf}
+use Rattle.detector.specs.Filters.{begun, statesOf, stepOf, runOf, outputsOf, samplesOf, noDecimated, keptOf, keepOf}
+use Rattle.detector.specs.Floor.{noMinima, smoothedOf, windowMinOf, minimaOf, nextOf, storedOf, floorOf}
+use Rattle.detector.specs.Modulation.{noHistory, historyOf, modulationOf}
+use Rattle.detector.specs.Detector.{freshOf, powersOf, finishOf, frameOf}
 use Rattle.detector.specs.Valid.{FiltersValid, FloorValid, Valid}
 use Rattle.detector.proofs.Told.{numbers, told}
 use Rattle.detector.proofs.Decimation.{kept-length, kept-fits}

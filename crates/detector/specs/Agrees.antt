@@ -7,7 +7,7 @@ use lib.Dec.{eqb}
 use lib.ListN.{length}
 use lib.Ieee.{inf}
 use Rattle.sequence.specs.History.{latest, held}
-use Rattle.detector.specs.declared.Floor.{Floor}
+use Rattle.detector.specs.declared.floor.Floor.{Floor}
 use Rattle.detector.specs.declared.FeatureDetector.{FeatureDetector}
 use Rattle.detector.specs.Rust.{RustFloor, RustDetector}
 

@@ -1,59 +1,44 @@
 -- One frame of the detector: the Rust's `FeatureDetector::frame` on the port's record.
 use mathlib.Core.Bool.{Bool, cond, _&&_}
 use mathlib.Core.List.{List, [], _∷_}
-use lib.ListN.{replicate}
-use lib.Ieee.{Float, binary32, binary64, lt, neg, ofBits}
+use lib.Ieee.{Float, binary64, lt, ofBits}
 use Rattle.float.specs.Choice.{maxOf}
 use Rattle.sequence.specs.History.{held}
-use Rattle.float.specs.Arithmetic.{_⊕_, _⊖_, _⊗_, _⊘_, zero64}
+use Rattle.float.specs.Arithmetic.{_⊕_, _⊖_, _⊗_, _⊘_, zero64, whole}
 use Rattle.float.specs.AllFinite.{allFinite}
-use Rattle.detector.specs.declared.Filters.{Filters}
-use Rattle.detector.specs.declared.Bands.{Bands}
-use Rattle.detector.specs.declared.Decimated.{Decimated}
-use Rattle.detector.specs.declared.Smoothed.the-variants.{Unset}
-use Rattle.detector.specs.declared.Floor.{Floor}
-use Rattle.detector.specs.declared.Floored.{Floored}
-use Rattle.detector.specs.declared.Modulated.{Modulated}
-use Rattle.detector.specs.declared.Voicing.{Voicing}
+use Rattle.level.specs.Bs1770.{frameLength}
+use Rattle.detector.specs.declared.filters.Filters.{Filters}
+use Rattle.detector.specs.declared.filters.Bands.{Bands}
+use Rattle.detector.specs.declared.filters.Decimated.{Decimated}
+use Rattle.detector.specs.declared.floor.Floored.{Floored}
+use Rattle.detector.specs.declared.modulation.Modulated.{Modulated}
+use Rattle.detector.specs.declared.voicing.Voicing.{Voicing}
 use Rattle.detector.specs.declared.FramePowers.{FramePowers}
 use Rattle.detector.specs.declared.Features.{Features}
 use Rattle.detector.specs.declared.Frame.{Frame}
 use Rattle.detector.specs.declared.FeatureDetector.{FeatureDetector}
 use Rattle.detector.specs.declared.Heard.{Heard}
 use Rattle.detector.specs.Steps.{smoothstepOf, dbOf}
-use Rattle.detector.specs.Filters.{samplesOf, allAtRest, begun, runOf, outputsOf, handedOf, keptOf, keepOf}
-use Rattle.detector.specs.Floor.{floorOf}
-use Rattle.detector.specs.Modulation.{modulationOf}
+use Rattle.detector.specs.Filters.{samplesOf, allAtRest, begun, statesOf, runOf, outputsOf, freshDecimated, handedOf, keptOf, keepOf}
+use Rattle.detector.specs.Floor.{freshFloor, floorOf}
+use Rattle.detector.specs.Modulation.{freshHistory, modulationOf}
 use Rattle.detector.specs.Voicing.{voicingOf}
 
 -- ---- fresh
 
-unfoldable pub noDecimated : List Float
-noDecimated = replicate 240 (ofBits binary32 0)
-
-unfoldable pub noMinima : List Float
-noMinima = replicate 8 zero64
-
-unfoldable pub noHistory : List Float
-noHistory = replicate 40 zero64
-
-abbrev pub freshFloor : Floor
-freshFloor =
-    record { smoothed = Unset; «window_min» = zero64; «window_frames» = 0; minima = record { count = 0; list = noMinima } }
-
 abbrev pub freshOf : FeatureDetector
 freshOf = record {
   filters = allAtRest;
-  decimated = record { count = 0; list = noDecimated };
+  decimated = freshDecimated;
   floor = freshFloor;
-  history = record { count = 0; list = noHistory };
+  history = freshHistory;
 }
 
 -- ---- the probability
 
 -- -0.93
 abbrev pub toneLimit : Float
-toneLimit = neg (ofBits binary64 0x3fedc28f5c28f5c3)
+toneLimit = ofBits binary64 0xbfedc28f5c28f5c3
 
 -- energy over the floor (4 to 14 dB), modulation (2 to 6 dB), 0.3 + 0.7 * voicing (0.4 to 0.75)
 abbrev pub speechOf : Features → Float
@@ -69,9 +54,9 @@ probabilityOf f = cond (lt (f .anti) toneLimit) zero64 (speechOf f)
 
 -- ---- a frame
 
--- 480, the samples of a frame
+-- the samples of a frame
 abbrev pub frame64 : Float
-frame64 = ofBits binary64 0x407e000000000000
+frame64 = whole frameLength
 
 -- the powers of the frame and of its band, and the band's in dB
 unfoldable pub powersOf : Bands → FramePowers
@@ -86,19 +71,6 @@ withFeatures level f = record { probability = probabilityOf f; «level_dbfs» = 
 
 unfoldable pub shownOf : FramePowers → Floored → Modulated → Voicing → Frame
 shownOf p f m v = withFeatures (dbOf (p .full)) (featuresOf (p .e) f m v)
-
--- the numbers of the filters
-abbrev pub statesOf : Filters → List Float
-statesOf f =
-    f .«high_pass» .z1
-    ∷ f .«high_pass» .z2
-    ∷ f .«low_pass» .z1
-    ∷ f .«low_pass» .z2
-    ∷ f .pitch1 .z1
-    ∷ f .pitch1 .z2
-    ∷ f .pitch2 .z1
-    ∷ f .pitch2 .z2
-    ∷ []
 
 -- what is stored beside them and the decimated values, and what is handed to the logarithm (a power above 0, else nothing, which counts
 -- as 0) or to the root

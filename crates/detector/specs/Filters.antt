@@ -1,28 +1,25 @@
 -- The detector's filters over the samples of a frame, and the values of the pitch filter that are kept.
-use Prim.Native.Nat.{ℕ, zero, suc, _<_}
-use mathlib.Core.Bool.{Bool, _&&_}
-use mathlib.Core.Path.{_≡_}
+use Prim.Native.Nat.{ℕ, zero, suc}
 use mathlib.Core.List.{List, [], _∷_, foldl, map}
 use lib.ListN.{getD, length, take, drop, replicate}
-use lib.Ieee.{Float, nan}
+use lib.Ieee.{Float, nan, binary32, ofBits}
 use Rattle.biquad.specs.Tick.{atRest, tickOf}
 use Rattle.biquad.specs.declared.Ticked.{Ticked}
 use Rattle.biquad.specs.Sections.{bandHighPass, bandLowPass, pitch1, pitch2}
 use Rattle.narrow.specs.Narrow.{narrowOf}
 use Rattle.sequence.specs.History.{laid, countAfter, placesAfter}
 use Rattle.float.specs.Arithmetic.{_⊕_, _⊗_, zero64}
-use Rattle.level.specs.Rest.{sameState}
-use Rattle.float.specs.Same.{sameOf, allSame}
-use Rattle.detector.specs.declared.Filters.{Filters}
-use Rattle.detector.specs.declared.Bands.{Bands}
-use Rattle.detector.specs.declared.Decimated.{Decimated}
+use Rattle.level.specs.Bs1770.{frameLength}
+use Rattle.detector.specs.declared.filters.Filters.{Filters}
+use Rattle.detector.specs.declared.filters.Bands.{Bands}
+use Rattle.detector.specs.declared.filters.Decimated.{Decimated}
 
 -- the 480 samples of a frame: missing ones count as 0, and further ones aren't heard
 unfoldable pub noSamples : List Float
-noSamples = replicate 480 zero64
+noSamples = replicate frameLength zero64
 
 unfoldable pub samplesOf : List Float → List Float
-samplesOf xs = laid (take 480 xs) noSamples
+samplesOf xs = laid (take frameLength xs) noSamples
 
 abbrev pub allAtRest : Filters
 allAtRest = record { «high_pass» = atRest; «low_pass» = atRest; pitch1 = atRest; pitch2 = atRest }
@@ -30,6 +27,19 @@ allAtRest = record { «high_pass» = atRest; «low_pass» = atRest; pitch1 = atR
 -- before the first sample of a frame
 abbrev pub begun : Filters → Bands
 begun f = record { filters = f; full = zero64; band = zero64; pitch = zero64 }
+
+-- the numbers of the filters
+abbrev pub statesOf : Filters → List Float
+statesOf f =
+    f .«high_pass» .z1
+    ∷ f .«high_pass» .z2
+    ∷ f .«low_pass» .z1
+    ∷ f .«low_pass» .z2
+    ∷ f .pitch1 .z1
+    ∷ f .pitch1 .z2
+    ∷ f .pitch2 .z1
+    ∷ f .pitch2 .z2
+    ∷ []
 
 -- after the outputs b of the band pair and q of the pitch pair for the sample v
 abbrev pub passed : Bands → Float → Ticked → Ticked → Ticked → Ticked → Bands
@@ -56,29 +66,13 @@ unfoldable pub outputsOf : Bands → List Float → List Float
 outputsOf s [] = []
 outputsOf s (x ∷ xs) = stepOf s x .pitch ∷ outputsOf (stepOf s x) xs
 
-unfoldable pub sameFilters : Filters → Filters → Bool
-sameFilters f g =
-    sameState (f .«high_pass») (g .«high_pass»)
-    && sameState (f .«low_pass») (g .«low_pass»)
-    && sameState (f .pitch1) (g .pitch1)
-    && sameState (f .pitch2) (g .pitch2)
+-- ---- the outputs that are kept
 
-unfoldable pub sameBands : Bands → Bands → Bool
-sameBands s t =
-    sameFilters (s .filters) (t .filters) && sameOf (s .full) (t .full) && sameOf (s .band) (t .band) && sameOf (s .pitch) (t .pitch)
+unfoldable pub noDecimated : List Float
+noDecimated = replicate 240 (ofBits binary32 0)
 
--- a sample v leaves all as it is
-unfoldable pub stillOf : Bands → Float → Bool
-stillOf s v = sameBands (stepOf s v) s
-
--- all samples are v, which changes nothing after the first
-unfoldable pub quietOf : Bands → Float → List Float → Bool
-quietOf s v xs = allSame v xs && stillOf (stepOf s v) v
-
--- what follows: one step is the run over xs, and its output is the output for each of them
-pub record Quiet (s : Bands) (v : Float) (xs : List Float) : Type 0 where
-  pub runs : 0 < length xs → runOf s xs ≡ stepOf s v
-  pub outputs : outputsOf s xs ≡ replicate (length xs) (stepOf s v .pitch)
+abbrev pub freshDecimated : Decimated
+freshDecimated = record { count = 0; list = noDecimated }
 
 -- every eighth value, n of them
 unfoldable pub eighths : ℕ → List Float → List Float

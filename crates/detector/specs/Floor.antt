@@ -3,15 +3,26 @@ use Prim.Native.Nat.{_+_}
 use mathlib.Core.Bool.{Bool, true, false, cond}
 use mathlib.Core.List.{List, [], _∷_, foldl}
 use lib.Dec.{ltb, eqb}
+use lib.ListN.{replicate}
 use lib.Ieee.{Float, binary64, ofBits}
 use Rattle.float.specs.Choice.{minOf}
 use Rattle.sequence.specs.History.{held, countAfter, placesAfter}
 use Rattle.float.specs.Arithmetic.{_⊕_, _⊖_, _⊗_, zero64}
-use Rattle.detector.specs.declared.Smoothed.{Smoothed}
-use Rattle.detector.specs.declared.Smoothed.the-variants.{Unset, At}
-use Rattle.detector.specs.declared.Minima.{Minima}
-use Rattle.detector.specs.declared.Floor.{Floor}
-use Rattle.detector.specs.declared.Floored.{Floored}
+use Rattle.detector.specs.declared.floor.Smoothed.{Smoothed}
+use Rattle.detector.specs.declared.floor.Smoothed.the-variants.{Unset, At}
+use Rattle.detector.specs.declared.floor.Minima.{Minima}
+use Rattle.detector.specs.declared.floor.Floor.{Floor}
+use Rattle.detector.specs.declared.floor.Floored.{Floored}
+
+unfoldable pub noMinima : List Float
+noMinima = replicate 8 zero64
+
+abbrev pub freshMinima : Minima
+freshMinima = record { count = 0; list = noMinima }
+
+abbrev pub freshFloor : Floor
+freshFloor =
+    record { smoothed = Unset; «window_min» = zero64; «window_frames» = 0; minima = freshMinima }
 
 -- 0.3
 abbrev pub smoothing : Float

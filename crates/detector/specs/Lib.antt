@@ -1,8 +1,10 @@
 pub mod Steps
 pub mod Filters
+pub mod Rest
 pub mod Floor
 pub mod Modulation
 pub mod Voicing
+pub mod EightLags
 pub mod Detector
 pub mod Examples
 pub mod Rust

@@ -1,12 +1,12 @@
 -- The standard deviation of the band power over the last 400 ms: the Rust's `FeatureDetector::modulation`.
 use mathlib.Core.List.{List, [], _∷_, foldl}
-use lib.ListN.{length}
+use lib.ListN.{length, replicate}
 use lib.Ieee.{Float}
 use Rattle.root.specs.Root.{sqrtOf}
 use Rattle.sequence.specs.History.{held, countAfter, placesAfter}
 use Rattle.float.specs.Arithmetic.{_⊕_, _⊖_, _⊗_, _⊘_, zero64, whole}
-use Rattle.detector.specs.declared.History.{History}
-use Rattle.detector.specs.declared.Modulated.{Modulated}
+use Rattle.detector.specs.declared.modulation.History.{History}
+use Rattle.detector.specs.declared.modulation.Modulated.{Modulated}
 
 unfoldable pub totalOf : List Float → Float
 totalOf xs = foldl _⊕_ zero64 xs
@@ -22,6 +22,12 @@ meanOf xs = totalOf xs ⊘ whole (length xs)
 
 unfoldable pub varianceOf : List Float → Float
 varianceOf xs = deviationsOf (meanOf xs) xs ⊘ whole (length xs)
+
+unfoldable pub noHistory : List Float
+noHistory = replicate 40 zero64
+
+abbrev pub freshHistory : History
+freshHistory = record { count = 0; list = noHistory }
 
 -- one value more; the oldest of 40 goes
 unfoldable pub historyOf : History → Float → History

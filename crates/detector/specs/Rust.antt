@@ -11,11 +11,11 @@ use Rattle.narrow.specs.Narrow.{narrowOf}
 use Rattle.root.specs.Root.{sqrtOf}
 use Rattle.sequence.specs.History.{pushed}
 use Rattle.float.specs.Arithmetic.{_⊖_, _⊘_, whole}
-use Rattle.detector.specs.declared.Filters.{Filters}
-use Rattle.detector.specs.declared.Bands.{Bands}
-use Rattle.detector.specs.declared.Smoothed.{Smoothed}
-use Rattle.detector.specs.declared.Smoothed.the-variants.{Unset, At}
-use Rattle.detector.specs.declared.Voicing.{Voicing}
+use Rattle.detector.specs.declared.filters.Filters.{Filters}
+use Rattle.detector.specs.declared.filters.Bands.{Bands}
+use Rattle.detector.specs.declared.floor.Smoothed.{Smoothed}
+use Rattle.detector.specs.declared.floor.Smoothed.the-variants.{Unset, At}
+use Rattle.detector.specs.declared.voicing.Voicing.{Voicing}
 use Rattle.detector.specs.declared.Features.{Features}
 use Rattle.detector.specs.declared.Frame.{Frame}
 use Rattle.detector.specs.Steps.{dbOf}

@@ -7,10 +7,10 @@ use Rattle.float.specs.Valid.{Num}
 use Rattle.sequence.specs.Counted.{Counted}
 use Rattle.float.specs.Arithmetic.{zero64}
 use Rattle.level.specs.Valid.{Settled}
-use Rattle.detector.specs.declared.Smoothed.{Smoothed}
-use Rattle.detector.specs.declared.Smoothed.the-variants.{Unset, At}
-use Rattle.detector.specs.declared.Filters.{Filters}
-use Rattle.detector.specs.declared.Floor.{Floor}
+use Rattle.detector.specs.declared.floor.Smoothed.{Smoothed}
+use Rattle.detector.specs.declared.floor.Smoothed.the-variants.{Unset, At}
+use Rattle.detector.specs.declared.filters.Filters.{Filters}
+use Rattle.detector.specs.declared.floor.Floor.{Floor}
 use Rattle.detector.specs.declared.FeatureDetector.{FeatureDetector}
 
 pub record FiltersValid (f : Filters) : Type 0 where

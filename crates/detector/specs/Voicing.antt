@@ -10,10 +10,8 @@ use Rattle.float.specs.Choice.{maxOf, minOf}
 use Rattle.root.specs.Root.{sqrtOf}
 use Rattle.sequence.specs.History.{latest}
 use Rattle.float.specs.Arithmetic.{_⊕_, _⊖_, _⊗_, _⊘_, zero64}
-use mathlib.Core.Path.{_≡_}
-use Rattle.detector.specs.declared.Eight.{Eight}
-use Rattle.detector.specs.declared.Ends.{Ends}
-use Rattle.detector.specs.declared.Voicing.{Voicing}
+use Rattle.detector.specs.declared.voicing.Ends.{Ends}
+use Rattle.detector.specs.declared.voicing.Voicing.{Voicing}
 
 -- 1e-12 and 0.1
 abbrev pub tiny : Float
@@ -43,17 +41,6 @@ productsFrom s (x ∷ xs) (y ∷ ys) = productsFrom (s ⊕ x ⊗ y) xs ys
 -- x[i] * x[i + lag]
 unfoldable pub correlationOf : List Float → ℕ → Float
 correlationOf x lag = productsFrom zero64 x (drop lag x)
-
--- the correlations of the lags from lag on
-pub record Correlations (x : List Float) (lag : ℕ) (r : Eight) : Type 0 where
-  pub at0 : r .s0 ≡ correlationOf x lag
-  pub at1 : r .s1 ≡ correlationOf x (lag + 1)
-  pub at2 : r .s2 ≡ correlationOf x (lag + 2)
-  pub at3 : r .s3 ≡ correlationOf x (lag + 3)
-  pub at4 : r .s4 ≡ correlationOf x (lag + 4)
-  pub at5 : r .s5 ≡ correlationOf x (lag + 5)
-  pub at6 : r .s6 ≡ correlationOf x (lag + 6)
-  pub at7 : r .s7 ≡ correlationOf x (lag + 7)
 
 -- ---- one lag
 

@@ -10,8 +10,8 @@ ghost use Rattle.freightpetal.specs.Steps.{afterSave, afterRestore};
 use chain::Chain;
 use chain::Changed;
 use chain::Framed;
-use settings::Settings;
 use chain::Verdict;
+use settings::Settings;
 
 // A fresh chain.
 pub fn new() -> Chain

@@ -17,7 +17,7 @@ use Rattle.chain.specs.declared.Changed.{Changed}
 use Rattle.chain.specs.declared.Verdict.{Verdict}
 use Rattle.chain.specs.declared.Verdict.the-variants.{Passed, Refused}
 use Rattle.chain.specs.Chain.{changed, unchanged}
-use Rattle.strand_image.specs.Run.{Run}
+use Rattle.codec.specs.Run.{Run}
 use Rattle.image.specs.Layout.{blockCount, imageBytes, payloadWords}
 use Rattle.image.specs.Chain.{chain}
 use Rattle.image.specs.Image.{wordsOf, image, readAs, ours, saveVerdict, savedIn, restoreOf}

@@ -27,6 +27,7 @@ use Rattle.image.specs.Chain.{strandSettings, duck, numbers, settings, l
 use Rattle.image.specs.Image.{wordsOf, image, readAs, ours, rightLength, rightChecks, refusesImage, saveVerdict, savedIn, restoreOf}
 use Rattle.image.specs.Port.{replyOf, onSave, onRestore, refusesSave}
 use Rattle.strand_image.specs.Strand.{strand, front, state, filters, powers, decimated, floor, smoothed, window, minima, history, decision, counts, power}
+use Rattle.image.proofs.Codecs.{chain-laws}
 use Rattle.image.proofs.Valid.{chain-valid, valid-chain}
 
 -- ---- the words of a valid chain
@@ -34,11 +35,11 @@ use Rattle.image.proofs.Valid.{chain-valid, valid-chain}
 module _ (c : Chain) (v : Valid c) where
   pub words-length : length (wordsOf c) ≡ payloadWords
   unfolding wordsOf chain settings numbers strandSettings duck loops strand front state filters powers decimated floor smoothed window minima history decision counts power
-  words-length = chain .size-is c (chain .shaped c (valid-chain c v))
+  words-length = chain-laws .size-is c (valid-chain c v)
 
   pub words-small : Words (wordsOf c)
   unfolding wordsOf
-  words-small = chain .small c (valid-chain c v)
+  words-small = chain-laws .small c (valid-chain c v)
 
   pub image-length : length (image c) ≡ imageBytes
   unfolding image
@@ -53,7 +54,7 @@ module _ (c : Chain) (v : Valid c) where
   unfolding readAs image
   read-image =
       ap (λ (l : List ℕ). chain .dec l 0) (images.image-payload (wordsOf c) words-small blockCount words-length)
-      ∙ (unfold wordsOf in dec-enc chain c (valid-chain c v))
+      ∙ (unfold wordsOf in dec-enc chain-laws c (valid-chain c v))
 
   image-ours : ours (image c) ≡ true
   unfolding ours
@@ -71,7 +72,7 @@ same-image s t v u = ((λ e. sym (read-image s v) ∙ ap readAs e ∙ read-image
 -- the words of a valid chain tell it from any other
 pub bits-inj : (s t : Chain) → Valid s → Valid t → wordsOf s ≡ wordsOf t → s ≡ t
 unfolding wordsOf
-bits-inj s t v u e = enc-inj chain s t (valid-chain s v) (valid-chain t u) e
+bits-inj s t v u e = enc-inj chain-laws s t (valid-chain s v) (valid-chain t u) e
 
 -- ---- some bytes
 
@@ -85,7 +86,7 @@ after old new x y z = cond x (cond y (cond z (changed new) (unchanged old Foreig
 module _ (b : List ℕ) where
   -- whatever the bytes, a valid chain is read
   pub read-valid : Valid (readAs b)
-  read-valid = chain-valid (readAs b) (unfold readAs in chain .sound (payloadOf b) 0)
+  read-valid = chain-valid (readAs b) (unfold readAs in chain-laws .sound (payloadOf b) 0)
 
   accepted-ours : refusesImage b ≡ 0 → ours b ≡ true
   unfolding refusesImage

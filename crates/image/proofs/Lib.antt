@@ -1,3 +1,4 @@
+pub mod Codecs
 pub mod Rules
 pub mod Calls
 pub mod Valid

@@ -1,25 +1,25 @@
 -- A payload is a valid chain's exactly where the specification's rules hold of its words.
 use mathlib.Core.Path.{_≡_, refl, sym, ap, _∙_, subst}
-use mathlib.Core.Bool.{Bool, true, false, not, cond, _&&_, _||_, Bool·beq}
+use mathlib.Core.Bool.{Bool, true, false, not, cond, _&&_, _||_, Bool·beq, true≢false, false≢true}
 use mathlib.Core.List.{List, [], _∷_}
 use Prim.Native.Nat.{ℕ, zero, suc, _+_, _-_, _*_, _%_, _^_, _≤_, _<_}
 use native.Mathlib.Nat.{mul-pos}
 use native.Mathlib.Omega.{arith}
-use borrow.Author.Tests.{eq-eqb, ne-eqb, ltb-true}
-use lib.Dec.{T, eqb, lit<}
+use borrow.Author.Tests.{eq-eqb, ne-eqb, ltb-true, not-true}
+use lib.Dec.{T, eqb}
 use lib.IntN.{ℤ, pos}
 use lib.ListN.{length, getD, replicate, length-replicate, getD-replicate}
 use lib.Ieee.{Float, nan, inf, fin, binary64, up, down, top, lt, eq, fits, ofBits, toBits}
-use lib.Ieee.Bits.{ofBits-fits}
+use lib.Ieee.Bits.{is-true, ofBits-fits}
 use lib.Ieee.Fits.{up-pos}
 use lib.Ieee.Scale.{finite}
 use Rattle.float.specs.Arithmetic.{zero64}
 use Rattle.blocks.specs.Lists.{Words}
-use Rattle.blocks.proofs.Lists.{below-nil, below-cons, below-replicate}
 use Rattle.codec.specs.Fields.{infinite, numOf}
 use Rattle.codec.specs.Codec.{Here, Codec}
-use Rattle.codec.specs.Kept.{here-head, T-true, ofBits-finite}
+use Rattle.codec.proofs.Kept.{here-head, ofBits-finite}
 use Rattle.codec.specs.Forms.{f64, flag, one, fixed, pair}
+use Rattle.codec.proofs.Forms.{f64-laws, flag-laws, one-laws}
 use Rattle.codec.proofs.Numbers.{numOf-in}
 use Rattle.codec.proofs.Accepted.{accepted}
 use Rattle.settings.specs.declared.Range.{Range}
@@ -29,13 +29,15 @@ use Rattle.chain.specs.Valid.{Valid}
 use Rattle.strand_image.specs.Strand.{strand, front, state, filters, powers, decimated, floor, smoothed, window, minima, history, decision, counts, power}
 use Rattle.strand_image.specs.Words.{Finite64, Flag}
 use Rattle.codec.proofs.Again.{Iff, Reads, here-cons, here-none, reads-all, reads-pair, reads-also, kept-float}
+use Rattle.strand_image.proofs.Codecs.{strand-laws}
 use Rattle.strand_image.proofs.Words.{number, flagged, strand-words}
 use Rattle.image.specs.Layout.{edition, unusedWords, payloadWords}
-use Rattle.image.specs.Chain.{strandSettings, duck, signedOf, signedStrand, signedDuck, signedSettings, settingsRule, numbers, fresh-numbers, fresh-rule, settings, loops, chain}
+use Rattle.image.specs.Chain.{strandSettings, duck, signedOf, signedStrand, signedDuck, signedSettings, settingsRule, numbers, settings, loops, chain}
 use Rattle.image.specs.Image.{wordsOf}
 use Rattle.settings.proofs.Zero.{zero-exponent}
 use Rattle.image.specs.Words.{SettingWord, PayloadWords}
-use Rattle.image.proofs.Valid.{or-false, false-or, not-true, both-true, unlike, chain-valid, valid-chain}
+use Rattle.image.proofs.Valid.{or-false, false-or, both-true, chain-valid, valid-chain}
+use Rattle.image.proofs.Codecs.{strand-settings-laws, numbers-laws, fresh-numbers, fresh-rule, settings-laws, loops-laws, edition-laws, chain-laws}
 
 -- ---- negative zero
 
@@ -59,9 +61,9 @@ other s m e =
 
 -- a number that equals zero is one of the two
 zeros : (x : Float) → T (fits binary64 x) → eq x zero64 ≡ true → (toBits binary64 x ≡ minus → ⊥) → toBits binary64 x ≡ 0
-zeros nan f h n = absurd (unfold eq in unlike h)
-zeros (inf s) f h n = absurd (unfold eq ofBits in unlike h)
-zeros (fin s (suc m) e) f h n = absurd (unlike (sym (other s m e) ∙ h))
+zeros nan f h n = absurd (unfold eq in false≢true h)
+zeros (inf s) f h n = absurd (unfold eq ofBits in false≢true h)
+zeros (fin s (suc m) e) f h n = absurd (false≢true (sym (other s m e) ∙ h))
 zeros (fin s zero e) f h n =
     let p : toBits binary64 (fin s 0 e) ≡ cond s minus 0 = ap (λ (k : ℤ). toBits binary64 (fin s 0 k)) (zero-exponent s e f) ∙ zero-of s in
     go s p
@@ -81,14 +83,14 @@ module _ (r : Range) (w : ℕ) (small : w < 2 ^ 64) where
   x = ofBits binary64 w
 
   is-x : Finite64 w → numOf binary64 w ≡ x
-  is-x f = numOf-in binary64 w (ltb-true (w % top binary64) (infinite binary64) (sym (ofBits-finite binary64 w) ∙ T-true (finite x) f)) (omega arith)
+  is-x f = numOf-in binary64 w (ltb-true (w % top binary64) (infinite binary64) (sym (ofBits-finite binary64 w) ∙ is-true (finite x) f)) (omega arith)
 
   bits-x : Finite64 w → toBits binary64 x ≡ w
   bits-x f = ap (toBits binary64) (sym (is-x f)) ∙ kept-float binary64 w .1 (omega arith, f)
 
   inside-parts : (f a b : Bool) → cond f (a || b) true ≡ false → (a ≡ false) × (b ≡ false)
   inside-parts true a b h = or-false a b h
-  inside-parts false a b h = absurd (unlike (sym h))
+  inside-parts false a b h = absurd (true≢false h)
 
   setting-from : Finite64 w → outsideOf r (numOf binary64 w) ≡ false → signedOf (numOf binary64 w) ≡ false → SettingWord r w
   setting-from f o g =
@@ -97,12 +99,12 @@ module _ (r : Range) (w : ℕ) (small : w < 2 ^ 64) where
         finite = f;
         low = p .0;
         high = p .1;
-        plain = λ e. unlike (sym (sym (ap (λ (m : ℕ). signedOf (ofBits binary64 m)) e ∙ minus-signed) ∙ sym (ap signedOf (is-x f)) ∙ g));
+        plain = λ e. true≢false (sym (ap (λ (m : ℕ). signedOf (ofBits binary64 m)) e ∙ minus-signed) ∙ sym (ap signedOf (is-x f)) ∙ g);
       }
 
   setting-outside : SettingWord r w → outsideOf r (numOf binary64 w) ≡ false
   unfolding outsideOf
-  setting-outside v = rw (is-x (v .finite), T-true (finite x) (v .finite), v .low, v .high)
+  setting-outside v = rw (is-x (v .finite), is-true (finite x) (v .finite), v .low, v .high)
 
   setting-signed : SettingWord r w → signedOf (numOf binary64 w) ≡ false
   unfolding signedOf
@@ -134,8 +136,8 @@ module _ (p : List ℕ) (s : Words p) where
   three-words : (i : ℕ) → Iff (Reads strandSettings p i) (Finite64 (word i) × Finite64 (word (i + 1)) × Finite64 (word (i + 2)))
   unfolding strandSettings
   three-words i =
-      let a = reads-pair (one f64) (pair (one f64) (one f64)) p i 1 (i + 1) refl refl in
-      let b = reads-pair (one f64) (one f64) p (i + 1) 1 (i + 2) refl (omega arith) in (
+      let a = reads-pair (one-laws f64-laws) (pair (one f64) (one f64)) p i 1 (i + 1) refl refl in
+      let b = reads-pair (one-laws f64-laws) (one f64) p (i + 1) 1 (i + 2) refl (omega arith) in (
         (λ h. let q = a .0 h in let r = b .0 (q .1) in (number p s i .0 (q .0), number p s (i + 1) .0 (r .0), number p s (i + 2) .0 (r .1))),
         λ w. a .1 (number p s i .1 (w .0), b .1 (number p s (i + 1) .1 (w .1), number p s (i + 2) .1 (w .2))),
       )
@@ -143,11 +145,11 @@ module _ (p : List ℕ) (s : Words p) where
   duck-words : Iff (Reads duck p 7) (Flag (word 7) × Finite64 (word 8) × Finite64 (word 9) × Finite64 (word 10) × Finite64 (word 11) × Flag (word 12))
   unfolding duck
   duck-words =
-      let a = reads-pair (one flag) (pair (one f64) (pair (one f64) (pair (one f64) (pair (one f64) (one flag))))) p 7 1 8 refl refl in
-      let b = reads-pair (one f64) (pair (one f64) (pair (one f64) (pair (one f64) (one flag)))) p 8 1 9 refl refl in
-      let c = reads-pair (one f64) (pair (one f64) (pair (one f64) (one flag))) p 9 1 10 refl refl in
-      let d = reads-pair (one f64) (pair (one f64) (one flag)) p 10 1 11 refl refl in
-      let e = reads-pair (one f64) (one flag) p 11 1 12 refl refl in (
+      let a = reads-pair (one-laws flag-laws) (pair (one f64) (pair (one f64) (pair (one f64) (pair (one f64) (one flag))))) p 7 1 8 refl refl in
+      let b = reads-pair (one-laws f64-laws) (pair (one f64) (pair (one f64) (pair (one f64) (one flag)))) p 8 1 9 refl refl in
+      let c = reads-pair (one-laws f64-laws) (pair (one f64) (pair (one f64) (one flag))) p 9 1 10 refl refl in
+      let d = reads-pair (one-laws f64-laws) (pair (one f64) (one flag)) p 10 1 11 refl refl in
+      let e = reads-pair (one-laws f64-laws) (one flag) p 11 1 12 refl refl in (
         (λ h.
             let q = a .0 h in
             let r = b .0 (q .1) in
@@ -178,8 +180,8 @@ module _ (p : List ℕ) (s : Words p) where
   numbers-words : Iff (Reads numbers p 1) (Reads strandSettings p 1 × Reads strandSettings p 4 × Reads duck p 7)
   unfolding numbers
   numbers-words =
-      let a = reads-pair strandSettings (pair strandSettings duck) p 1 3 4 size-strand-settings refl in
-      let b = reads-pair strandSettings duck p 4 3 7 size-strand-settings refl in
+      let a = reads-pair strand-settings-laws (pair strandSettings duck) p 1 3 4 size-strand-settings refl in
+      let b = reads-pair strand-settings-laws duck p 4 3 7 size-strand-settings refl in
       ((λ h. let q = a .0 h in let r = b .0 (q .1) in (q .0, r .0, r .1)), λ w. a .1 (w .0, b .1 (w .1, w .2)))
 
   -- in range, and no negative zero
@@ -236,7 +238,7 @@ module _ (p : List ℕ) (s : Words p) where
   settings-parts : Iff (Reads settings p 1) ((Reads strandSettings p 1 × Reads strandSettings p 4 × Reads duck p 7) × AllFine)
   unfolding settings
   settings-parts =
-      let a = reads-also settingsRule freshSettings numbers fresh-numbers fresh-rule p 1 in (
+      let a = reads-also settingsRule freshSettings numbers-laws fresh-numbers fresh-rule p 1 in (
         (λ h. let q = a .0 h in (numbers-words .0 (q .0), rule-words .0 (q .1))),
         λ w. a .1 (numbers-words .1 (w .0), rule-words .1 (w .1)),
       )
@@ -246,9 +248,9 @@ module _ (p : List ℕ) (s : Words p) where
   loops-words : Iff (Reads loops p 1269) (Finite64 (word 1269) × Finite64 (word 1270) × Finite64 (word 1271) × Finite64 (word 1272))
   unfolding loops
   loops-words =
-      let a = reads-pair (one f64) (pair (one f64) (pair (one f64) (one f64))) p 1269 1 1270 refl refl in
-      let b = reads-pair (one f64) (pair (one f64) (one f64)) p 1270 1 1271 refl refl in
-      let c = reads-pair (one f64) (one f64) p 1271 1 1272 refl refl in (
+      let a = reads-pair (one-laws f64-laws) (pair (one f64) (pair (one f64) (one f64))) p 1269 1 1270 refl refl in
+      let b = reads-pair (one-laws f64-laws) (pair (one f64) (one f64)) p 1270 1 1271 refl refl in
+      let c = reads-pair (one-laws f64-laws) (one f64) p 1271 1 1272 refl refl in (
         (λ h.
             let q = a .0 h in
             let r = b .0 (q .1) in
@@ -284,20 +286,17 @@ module _ (p : List ℕ) (s : Words p) where
   unfolding loops
   size-loops = refl
 
-  abbrev first : Codec (Unit {0})
-  first = fixed (edition ∷ []) (below-cons (2 ^ 64) edition [] (lit< tt) (below-nil (2 ^ 64) (lit< tt)))
-
   abbrev last : Codec (Unit {0})
-  last = fixed (replicate unusedWords 0) (below-replicate (2 ^ 64) unusedWords 0 (lit< tt))
+  last = fixed (replicate unusedWords 0)
 
   chain-parts : Iff (Reads chain p 0) (Here p 0 (edition ∷ []) × Reads settings p 1 × Reads strand p 13 × Reads strand p 641 × Reads loops p 1269 × Here p 1273 (replicate unusedWords 0))
   unfolding chain
   chain-parts =
-      let a = reads-pair first (pair settings (pair strand (pair strand (pair loops last)))) p 0 1 1 refl refl in
-      let b = reads-pair settings (pair strand (pair strand (pair loops last))) p 1 12 13 size-settings refl in
-      let c = reads-pair strand (pair strand (pair loops last)) p 13 628 641 size-strand refl in
-      let d = reads-pair strand (pair loops last) p 641 628 1269 size-strand refl in
-      let e = reads-pair loops last p 1269 4 1273 size-loops refl in (
+      let a = reads-pair edition-laws (pair settings (pair strand (pair strand (pair loops last)))) p 0 1 1 refl refl in
+      let b = reads-pair settings-laws (pair strand (pair strand (pair loops last))) p 1 12 13 size-settings refl in
+      let c = reads-pair strand-laws (pair strand (pair loops last)) p 13 628 641 size-strand refl in
+      let d = reads-pair strand-laws (pair loops last) p 641 628 1269 size-strand refl in
+      let e = reads-pair loops-laws last p 1269 4 1273 size-loops refl in (
         (λ h.
             let q = a .0 h in
             let r = b .0 (q .1) in
@@ -380,8 +379,8 @@ module _ (p : List ℕ) (s : Words p) where
   pub payload-words : length p ≡ payloadWords → Iff (PayloadWords p) ((c : Chain) × Valid c × (wordsOf c ≡ p))
   unfolding wordsOf
   payload-words e =
-      let a = reads-all chain p (e ∙ sym size-chain) in
-      let b = accepted chain p in (
+      let a = reads-all chain-laws p (e ∙ sym size-chain) in
+      let b = accepted chain-laws p in (
         (λ w. let c = b .1 (a .0 (to-parts w)) in (c .0, chain-valid (c .0) (c .1), c .2)),
         λ c. from-parts (a .1 (b .0 (c .0, valid-chain (c .0) (c .1), c .2))),
       )

@@ -2,7 +2,7 @@
 use mathlib.Core.Path.{_≡_, sym, ap, _∙_}
 use mathlib.Core.Bool.{true, false}
 use Rattle.codec.specs.Fields.{ruled}
-use Rattle.codec.specs.Kept.{true-T, ruled-same, ruled-other}
+use Rattle.codec.proofs.Kept.{true-T, ruled-same, ruled-other}
 use Rattle.settings.specs.declared.Settings.{Settings}
 use Rattle.settings.specs.Settings.{imageRanges, outsideSettings, freshSettings}
 use Rattle.image.specs.Chain.{signedSettings, settingsRule}

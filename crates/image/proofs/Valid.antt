@@ -1,7 +1,7 @@
 -- What the chain's codec holds good is what the modules call valid.
 use mathlib.Core.Path.{_≡_, refl, sym, ap, _∙_}
 use mathlib.Core.Bool.{Bool, true, false, not, cond, _&&_, _||_, true≢false}
-use borrow.Author.Tests.{eq-eqb, eqb-true}
+use borrow.Author.Tests.{eq-eqb, eqb-true, not-true}
 use lib.Dec.{T, eqb}
 use lib.Ieee.{Float, binary64, toBits, ofBits, eq}
 use lib.Ieee.Bits.{ofBits-toBits}
@@ -18,26 +18,19 @@ use Rattle.chain.specs.declared.Chain.{Chain}
 use Rattle.settings.specs.Settings.{imageRanges, outsideOf, outsideStrand, outsideDuck, outsideSettings, zeroedOf}
 use Rattle.chain.specs.Valid.{Valid}
 use Rattle.settings.specs.Valid.{SettingValid, StrandSettingsValid, DuckValid, SettingsValid}
-use Rattle.strand_image.specs.Strand.{zero-bits}
+use Rattle.strand_image.proofs.Codecs.{zero-bits}
 use Rattle.strand_image.proofs.Valid.{strand-valid, valid-strand}
 use Rattle.image.specs.Chain.{strandSettings, duck, signedOf, signedStrand, signedDuck, signedSettings, numbers, settings, loops, chain}
 
 -- ---- tests
 
-pub unlike : false ≡ true → ⊥
-unlike e = true≢false (sym e)
-
 pub or-false : (a b : Bool) → (a || b) ≡ false → (a ≡ false) × (b ≡ false)
 or-false false false e = (refl, refl)
 or-false false true e = (refl, e)
-or-false true b e = absurd (unlike (sym e))
+or-false true b e = absurd (true≢false e)
 
 pub false-or : {a b : Bool} → a ≡ false → b ≡ false → (a || b) ≡ false
 false-or {a} {b} p q = rw (p, q)
-
-pub not-true : (b : Bool) → not b ≡ true → b ≡ false
-not-true true e = absurd (unlike e)
-not-true false e = refl
 
 pub both-true : (a b : Bool) → T (a && b) → (a ≡ true) × (b ≡ true)
 both-true true true t = (refl, refl)
@@ -57,7 +50,7 @@ stored-plain x n h = go (eq x zero64) h
       where
         go₂ : (z : Bool) → eqb (toBits binary64 x) 0 ≡ z → not z ≡ false → zero64 ≡ x
         go₂ true q r = sym (sym (ofBits-toBits binary64 x (n .1)) ∙ ap (ofBits binary64) (eqb-true (toBits binary64 x) 0 q))
-        go₂ false q r = absurd (unlike (sym r))
+        go₂ false q r = absurd (true≢false r)
 
 plain-stored : (x : Float) → zeroedOf x ≡ x → signedOf x ≡ false
 unfolding signedOf zeroedOf

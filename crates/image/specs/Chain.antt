@@ -1,12 +1,9 @@
--- The 1,323 words of a chain, as codecs: each is how a part is written and read, with its laws. Definitions only.
-use mathlib.Core.Path.{refl}
+-- The 1,323 words of a chain, as codecs: each is how a part is written and read, and which values it holds. Definitions only.
 use mathlib.Core.Bool.{Bool, false, not, cond, _&&_, _||_}
 use mathlib.Core.List.{[], _∷_}
-use Prim.Native.Nat.{_^_}
 use lib.ListN.{replicate}
-use lib.Dec.{T, eqb, lit<}
-use lib.Ieee.{Float, binary64, toBits, ofBits, eq, neg, lt, fits}
-use Rattle.blocks.proofs.Lists.{below-nil, below-cons, below-replicate}
+use lib.Dec.{eqb}
+use lib.Ieee.{Float, binary64, toBits, eq}
 use Rattle.codec.specs.Codec.{Codec}
 use Rattle.codec.specs.Forms.{f64, flag, one, fixed, pair, as-a, also}
 use Rattle.float.specs.Arithmetic.{zero64}
@@ -15,7 +12,7 @@ use Rattle.ratio.specs.declared.Duck.{Duck}
 use Rattle.comis.specs.declared.loop_bank.Loops.{Loops}
 use Rattle.settings.specs.declared.Settings.{Settings}
 use Rattle.chain.specs.declared.Chain.{Chain}
-use Rattle.settings.specs.Settings.{imageRanges, outsideOf, outsideStrand, outsideDuck, outsideSettings, freshSettings}
+use Rattle.settings.specs.Settings.{imageRanges, outsideSettings, freshSettings}
 use Rattle.comis.specs.LoopBank.{db}
 use Rattle.strand_image.specs.Strand.{strand}
 use Rattle.image.specs.Layout.{edition, unusedWords}
@@ -24,20 +21,23 @@ use Rattle.image.specs.Layout.{edition, unusedWords}
 
 unfoldable pub strandSettings : Codec VadSettings
 strandSettings = as-a (λ s. (s .threshold, (s .«hold_ms», s .«gate_lufs» .0))) (λ p. record { threshold = p .0; «hold_ms» = p .1 .0; «gate_lufs» = record { 0 = p .1 .1 } })
-    (λ a. refl) (λ b. refl)
     (pair (one f64) (pair (one f64) (one f64)))
 
+abbrev pub fromDuck : Duck → Bool × (Float × (Float × (Float × (Float × Bool))))
+fromDuck s = (s .enabled, (s .«target_lu», (s .«overvoice_lu», (s .«max_reduction_db» .0, (s .speed, s .«bed_voice»)))))
+
+abbrev pub toDuck : Bool × (Float × (Float × (Float × (Float × Bool)))) → Duck
+toDuck p = record {
+  enabled = p .0;
+  «target_lu» = p .1 .0;
+  «overvoice_lu» = p .1 .1 .0;
+  «max_reduction_db» = db (p .1 .1 .1 .0);
+  speed = p .1 .1 .1 .1 .0;
+  «bed_voice» = p .1 .1 .1 .1 .1;
+}
+
 unfoldable pub duck : Codec Duck
-duck = as-a (λ s. (s .enabled, (s .«target_lu», (s .«overvoice_lu», (s .«max_reduction_db» .0, (s .speed, s .«bed_voice»))))))
-    (λ p. record {
-      enabled = p .0;
-      «target_lu» = p .1 .0;
-      «overvoice_lu» = p .1 .1 .0;
-      «max_reduction_db» = db (p .1 .1 .1 .0);
-      speed = p .1 .1 .1 .1 .0;
-      «bed_voice» = p .1 .1 .1 .1 .1;
-    }) (λ a. refl) (λ b. refl)
-    (pair (one flag) (pair (one f64) (pair (one f64) (pair (one f64) (pair (one f64) (one flag))))))
+duck = as-a fromDuck toDuck (pair (one flag) (pair (one f64) (pair (one f64) (pair (one f64) (pair (one f64) (one flag))))))
 
 -- negative zero: equal to zero, and by its bits another
 unfoldable pub signedOf : Float → Bool
@@ -58,31 +58,22 @@ settingsRule s = not (outsideSettings imageRanges s) && not (signedSettings s)
 
 -- the twelve numbers, whatever their values
 unfoldable pub numbers : Codec Settings
-numbers = as-a (λ s. (s .key, (s .bed, s .duck))) (λ p. record { key = p .0; bed = p .1 .0; duck = p .1 .1 }) (λ a. refl) (λ b. refl)
+numbers = as-a (λ s. (s .key, (s .bed, s .duck))) (λ p. record { key = p .0; bed = p .1 .0; duck = p .1 .1 })
     (pair strandSettings (pair strandSettings duck))
 
-pub fresh-numbers : numbers .Ok freshSettings
-unfolding numbers strandSettings duck ofBits neg fits
-fresh-numbers = (((tt, tt), ((tt, tt), (tt, tt))), (((tt, tt), ((tt, tt), (tt, tt))), (tt, ((tt, tt), ((tt, tt), ((tt, tt), ((tt, tt), tt)))))))
-
-pub fresh-rule : T (settingsRule freshSettings)
-unfolding outsideSettings outsideStrand outsideDuck outsideOf signedSettings signedStrand signedDuck signedOf eq lt ofBits neg toBits
-fresh-rule = tt
-
 unfoldable pub settings : Codec Settings
-settings = also settingsRule freshSettings numbers fresh-numbers fresh-rule
+settings = also settingsRule freshSettings numbers
 
 -- ---- the ducker's loops
 
 unfoldable pub loops : Codec Loops
 loops = as-a (λ s. (s .slow .0, (s .mid .0, (s .fast .0, s .«hold_remaining_seconds»))))
-    (λ p. record { slow = db (p .0); mid = db (p .1 .0); fast = db (p .1 .1 .0); «hold_remaining_seconds» = p .1 .1 .1 }) (λ a. refl) (λ b. refl)
+    (λ p. record { slow = db (p .0); mid = db (p .1 .0); fast = db (p .1 .1 .0); «hold_remaining_seconds» = p .1 .1 .1 })
     (pair (one f64) (pair (one f64) (pair (one f64) (one f64))))
 
 -- ---- the chain: the edition, the settings, key strand, bed strand, loops, and the unused words
 
 unfoldable pub chain : Codec Chain
 chain = as-a (λ c. (tt, (c .settings, (c .key, (c .bed, (c .loops, tt))))))
-    (λ p. record { settings = p .1 .0; key = p .1 .1 .0; bed = p .1 .1 .1 .0; loops = p .1 .1 .1 .1 .0 }) (λ a. refl) (λ b. refl)
-    (pair (fixed (edition ∷ []) (below-cons (2 ^ 64) edition [] (lit< tt) (below-nil (2 ^ 64) (lit< tt))))
-    (pair settings (pair strand (pair strand (pair loops (fixed (replicate unusedWords 0) (below-replicate (2 ^ 64) unusedWords 0 (lit< tt))))))))
+    (λ p. record { settings = p .1 .0; key = p .1 .1 .0; bed = p .1 .1 .1 .0; loops = p .1 .1 .1 .1 .0 })
+    (pair (fixed (edition ∷ [])) (pair settings (pair strand (pair strand (pair loops (fixed (replicate unusedWords 0)))))))

@@ -2,7 +2,7 @@
 // checks are the chain's numbers by their bits.
 ghost use mathlib.Core.Path.{_≡_};
 ghost use Prim.Native.Nat.{_+_, _^_, _≤_};
-ghost use Rattle.strand_image.specs.Run.{Run};
+ghost use Rattle.codec.specs.Run.{Run};
 ghost use Rattle.image.specs.Chain.{
   strandSettings,
   duck,
@@ -18,13 +18,13 @@ ghost use Rattle.image.specs.Chain.{
 ghost use Rattle.image.specs.Image.{saveVerdict, savedIn, restoreOf};
 use chain::Chain;
 use chain::Changed;
-use settings::Settings;
 use chain::Verdict;
 use comis::loop_bank::Loops;
 use float::Db;
 use float::Lufs;
 use ratio::Duck;
 use refusal::Refusal;
+use settings::Settings;
 use vad::VadSettings;
 
 const EDITION: u64 = 1;
@@ -32,6 +32,8 @@ const EDITION: u64 = 1;
 const BLOCKS: usize = 21;
 
 const BYTES: usize = 10752; // 512 a block
+
+const WORDS: usize = 1323; // of a payload: 63 a block
 
 // Where the parts of a payload begin, after the edition.
 const SETTINGS: usize = 1;
@@ -170,10 +172,7 @@ fn signed_duck(s: Duck) -> bool
 fn signed_settings(s: Settings) -> bool
     ensures { λ r. ⌜ r ≡ signedSettings s ⌝ }
 {
-    let key = s.key;
-    let bed = s.bed;
-    let duck = s.duck;
-    signed_strand(key) | signed_strand(bed) | signed_duck(duck)
+    signed_strand(s.key) | signed_strand(s.bed) | signed_duck(s.duck)
 }
 
 // The settings; those that are out of range or have a negative zero are read as the fresh ones.
@@ -224,16 +223,6 @@ fn get_chain(w: &[u64]) -> Chain
 
 // ---- the two calls
 
-// Places for a payload's words.
-fn words() -> [u64; 1323] {
-    [0; 1323]
-}
-
-// Places for an image's bytes.
-fn bytes() -> [u8; 10752] {
-    [0; 10752]
-}
-
 // Saves a chain into b. Refusal 6: b isn't 10,752 bytes long; then none of them is changed.
 pub fn save(c: Chain, b: &mut [u8]) -> Verdict
     ensures { λ r. ⌜ (r ≡ saveVerdict (now (b .entry))) × (now (b .exit) ≡ savedIn c (now (b .entry))) ⌝ }
@@ -241,7 +230,7 @@ pub fn save(c: Chain, b: &mut [u8]) -> Verdict
     if b.len() != BYTES {
         return Verdict::Refused(Refusal::WrongLength);
     }
-    let mut w = words();
+    let mut w = [0u64; WORDS];
     put_chain(&mut w, c);
     blocks::write_image(&w, b);
     Verdict::Passed
@@ -264,10 +253,10 @@ pub fn restore(old: Chain, b: &[u8]) -> Changed
             verdict: Verdict::Refused(Refusal::BadCheck),
         };
     }
-    let mut w = words();
+    let mut w = [0u64; WORDS];
     blocks::payload(b, &mut w);
     let new = get_chain(&w);
-    let mut again = bytes();
+    let mut again = [0u8; BYTES];
     save(new, &mut again);
     if blocks::same(&again, b) {
         return Changed {

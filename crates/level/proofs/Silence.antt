@@ -10,7 +10,8 @@ use Rattle.float.proofs.Sameness.{Same}
 use Rattle.biquad.specs.Sections.{kShelf, kHighPass}
 use Rattle.biquad.specs.Tick.{tickOf}
 use Rattle.level.specs.declared.Weighing.{Weighing}
-use Rattle.level.specs.Weighing.{weighed, stepOf, shelfOutput, heldStep, heldRun}
+use Rattle.level.specs.Weighing.{weighed, stepOf}
+use Rattle.level.specs.Rest.{shelfOutput, heldStep, heldRun}
 
 -- a sample x that leaves the shelf as it is
 abbrev Stays : Weighing → Float → Type 0

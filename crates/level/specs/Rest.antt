@@ -1,13 +1,14 @@
--- The tests that save work in silence: whether a sample leaves a section as it is. No meaning rests on them.
+-- What saves work in silence: the test whether a sample leaves a section as it is, and the steps with the shelf left out. No meaning rests on it.
 use mathlib.Core.Bool.{Bool, _&&_}
-use mathlib.Core.List.{List}
+use mathlib.Core.List.{List, foldl}
 use lib.Ieee.{Float}
 use Rattle.biquad.specs.declared.State.{State}
 use Rattle.biquad.specs.declared.Coefficients.{Coefficients}
-use Rattle.biquad.specs.Sections.{kShelf}
+use Rattle.biquad.specs.Sections.{kShelf, kHighPass}
 use Rattle.biquad.specs.Tick.{tickOf}
 use Rattle.float.specs.Same.{sameOf, allSame}
 use Rattle.level.specs.declared.Weighing.{Weighing}
+use Rattle.level.specs.Weighing.{weighed}
 
 unfoldable pub sameState : State → State → Bool
 sameState s t = sameOf (s .z1) (t .z1) && sameOf (s .z2) (t .z2)
@@ -19,3 +20,16 @@ holdsOf s c x = sameState (tickOf s c x .state) s
 -- all samples are x, which leaves the shelf's state as it is
 unfoldable pub restsOf : Weighing → Float → List Float → Bool
 restsOf w x xs = allSame x xs && holdsOf (w .shelf) kShelf x
+
+-- ---- the steps
+
+abbrev pub shelfOutput : Weighing → Float → Float
+shelfOutput w x = tickOf (w .shelf) kShelf x .y
+
+-- a sample for which the shelf's output is v and its state stays
+unfoldable pub heldStep : Float → Weighing → Weighing
+heldStep v w = weighed w (record { state = w .shelf; y = v }) (tickOf (w .«high_pass») kHighPass v)
+
+-- one for each sample
+unfoldable pub heldRun : Float → Weighing → List Float → Weighing
+heldRun v w xs = foldl (λ (u : Weighing) (x : Float). heldStep v u) w xs

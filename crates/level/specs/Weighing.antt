@@ -29,17 +29,6 @@ stepOf w x =
     let b = tickOf (w .«high_pass») kHighPass (a .y) in
     weighed w a b
 
-abbrev pub shelfOutput : Weighing → Float → Float
-shelfOutput w x = tickOf (w .shelf) kShelf x .y
-
--- a sample for which the shelf's output is v and its state stays
-unfoldable pub heldStep : Float → Weighing → Weighing
-heldStep v w = weighed w (record { state = w .shelf; y = v }) (tickOf (w .«high_pass») kHighPass v)
-
--- one for each sample
-unfoldable pub heldRun : Float → Weighing → List Float → Weighing
-heldRun v w xs = foldl (λ (u : Weighing) (x : Float). heldStep v u) w xs
-
 -- all samples of a frame
 unfoldable pub runOf : Weighing → List Float → Weighing
 runOf w xs = foldl stepOf w (map cleanOf xs)

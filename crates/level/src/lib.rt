@@ -6,9 +6,9 @@ ghost use lib.Dec.{T};
 ghost use lib.ListN.{length, replicate};
 ghost use Rattle.biquad.specs.Tick.{tickOf};
 ghost use Rattle.float.specs.AllFinite.{allFinite};
-ghost use Rattle.level.specs.Rest.{sameState, holdsOf, restsOf};
+ghost use Rattle.level.specs.Rest.{sameState, holdsOf, restsOf, shelfOutput, heldStep, heldRun};
 ghost use Rattle.float.specs.Same.{sameOf, allSame};
-ghost use Rattle.level.specs.Weighing.{cleanOf, stepOf, shelfOutput, heldStep, heldRun, runOf};
+ghost use Rattle.level.specs.Weighing.{cleanOf, stepOf, runOf};
 ghost use Rattle.level.specs.Level.{
   joinedOf,
   zeros,
@@ -31,15 +31,23 @@ use biquad::State;
 use float::Lufs;
 use float::SILENCE_LUFS;
 
-const MOMENTARY: usize = 40; // frames
+// Samples of a frame: 10 ms at 48 kHz.
+pub const FRAME: usize = 480;
 
-const SHORT_TERM: usize = 300; // frames
+// Frames of the momentary loudness: 400 ms.
+const MOMENTARY: usize = 40;
 
-const FAST_COEFF: f64 = 0.9995833639986813; // exp(-1 / 2400): 50 ms
+// Frames of the short-term loudness: 3 s.
+const SHORT_TERM: usize = 300;
 
-const WEIGHT: f64 = 1.0; // of the one channel
+// What a sample leaves of the fast mean square: exp(-1 / 2400), a time constant of 50 ms.
+const FAST_COEFF: f64 = 0.9995833639986813;
 
-const OFFSET: f64 = -0.691; // LUFS
+// The weight of the one channel.
+const WEIGHT: f64 = 1.0;
+
+// BS.1770's constant before the logarithm, LUFS.
+const OFFSET: f64 = -0.691;
 
 // One channel, from sample to sample: its filters, the fast mean square, and the energy of the frame so far.
 pub struct Weighing {
@@ -97,20 +105,19 @@ pub struct Framed {
     pub finite: bool,
 }
 
-// Whether two sections are in the same state.
+// Whether two states are surely the same: their numbers have the same bits. A state with a NaN is never the same.
 pub fn same_state(s: State, t: State) -> bool
     ensures { λ r. ⌜ (r ≡ sameState s t) × (T r → s ≡ t) ⌝ }
 {
     float::same(s.z1, t.z1) & float::same(s.z2, t.z2)
 }
 
-// Whether a sample x leaves a section's state as it is. In silence rounding holds its numbers at last.
+// Whether a sample x surely leaves a section's state as it is; never where the state after it has a NaN. In silence the numbers shrink until
+// rounding leaves them as they are.
 pub fn holds(s: State, c: Coefficients, x: f64) -> bool
     ensures { λ r. ⌜ (r ≡ holdsOf s c x) × (T r → tickOf s c x .state ≡ s) ⌝ }
 {
-    let t = s.tick(c, x);
-    let next = t.state;
-    same_state(next, s)
+    same_state(s.tick(c, x).state, s)
 }
 
 // A sample as it is heard: 0 in place of one that isn't finite.
@@ -128,16 +135,14 @@ impl Weighing {
     pub fn step(self, x: f64) -> Weighing
         ensures { λ r. ⌜ r ≡ stepOf self x ⌝ }
     {
-        let shelf = self.shelf;
-        let high_pass = self.high_pass;
-        let a = shelf.tick(K_SHELF, x);
-        let b = high_pass.tick(K_HIGH_PASS, a.y);
+        let a = self.shelf.tick(K_SHELF, x);
+        let b = self.high_pass.tick(K_HIGH_PASS, a.y);
         let y2 = b.y * b.y;
-        let s = a.state;
-        let h = b.state;
+        let shelf = a.state;
+        let high_pass = b.state;
         Weighing {
-            shelf: s,
-            high_pass: h,
+            shelf,
+            high_pass,
             fast: self.fast * FAST_COEFF + y2 * (1.0 - FAST_COEFF),
             energy: self.energy + y2,
         }
@@ -147,14 +152,13 @@ impl Weighing {
     pub fn held_step(self, v: f64) -> Weighing
         ensures { λ r. ⌜ r ≡ heldStep v self ⌝ }
     {
-        let shelf = self.shelf;
-        let high_pass = self.high_pass;
-        let b = high_pass.tick(K_HIGH_PASS, v);
+        let b = self.high_pass.tick(K_HIGH_PASS, v);
         let y2 = b.y * b.y;
-        let h = b.state;
+        let shelf = self.shelf;
+        let high_pass = b.state;
         Weighing {
             shelf,
-            high_pass: h,
+            high_pass,
             fast: self.fast * FAST_COEFF + y2 * (1.0 - FAST_COEFF),
             energy: self.energy + y2,
         }
@@ -164,19 +168,16 @@ impl Weighing {
     pub fn shelf_output(self, x: f64) -> f64
         ensures { λ r. ⌜ r ≡ shelfOutput self x ⌝ }
     {
-        let shelf = self.shelf;
-        let a = shelf.tick(K_SHELF, x);
-        a.y
+        self.shelf.tick(K_SHELF, x).y
     }
 
-    // Whether all samples are x and leave the shelf's state as it is. Then the shelf need not be run.
+    // Whether all samples are surely x and leave the shelf's state as it is. Then the shelf need not be run.
     pub fn rests(self, x: f64, xs: &[f64]) -> bool
         ensures { λ r. ⌜ (r ≡ restsOf self x (now (xs .entry)))
             × (T r → heldRun (shelfOutput self x) self (now (xs .entry)) ≡ foldl stepOf self (now (xs .entry))) ⌝ }
     {
-        let shelf = self.shelf;
         if float::all_same(x, xs) {
-            return holds(shelf, K_SHELF, x);
+            return holds(self.shelf, K_SHELF, x);
         }
         false
     }
@@ -298,7 +299,7 @@ impl Powers {
         Powers { count, list }
     }
 
-    // The sum over 40 frames, newest first, is the beginning of that over 300.
+    // The mean powers of 40 and of 300 frames. The sum over 40, newest first, is the beginning of that over 300.
     pub fn means(self) -> Means
         ensures { λ r. ⌜ r ≡ meansOf self ⌝ }
     {
@@ -319,12 +320,11 @@ impl Level {
     pub fn new() -> Self
         ensures { λ r. ⌜ r ≡ freshOf ⌝ }
     {
-        let powers = Powers::new();
         Self {
             shelf: State::new(),
             high_pass: State::new(),
             fast: 0.0,
-            powers,
+            powers: Powers::new(),
         }
     }
 
@@ -346,9 +346,7 @@ impl Level {
     pub fn frame(self, xs: &[f32]) -> Framed
         ensures { λ r. ⌜ r ≡ frameOf self (now (xs .entry)) ⌝ }
     {
-        let powers = self.powers;
-        let w = self.start().run(xs);
-        finish(w, powers, xs.len())
+        finish(self.start().run(xs), self.powers, xs.len())
     }
 }
 

@@ -5,7 +5,7 @@ use mathlib.Core.List.{List, _++_}
 use lib.ListN.{length, take, drop}
 use lib.Seq.{take-all}
 use lib.Ieee.{Float}
-use Rattle.detector.specs.declared.Bands.{Bands}
+use Rattle.detector.specs.declared.filters.Bands.{Bands}
 use Rattle.detector.specs.Filters.{outputsOf}
 use Rattle.detector.proofs.Outputs.{outputs-end}
 

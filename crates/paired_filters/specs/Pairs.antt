@@ -5,7 +5,8 @@ use lib.Ieee.{Float}
 use Rattle.biquad.specs.declared.State.{State}
 use Rattle.level.specs.declared.Weighing.{Weighing}
 use Rattle.level.specs.Weighing as weighing
-use Rattle.detector.specs.declared.Bands.{Bands}
+use Rattle.level.specs.Rest.{heldRun}
+use Rattle.detector.specs.declared.filters.Bands.{Bands}
 use Rattle.detector.specs.Filters as filters
 use Rattle.paired_filters.specs.declared.Weighed.{Weighed}
 use Rattle.paired_filters.specs.declared.Beside.{Beside}
@@ -21,7 +22,7 @@ weighedOf k b xs ys = record { key = foldl weighing.stepOf k xs; bed = foldl wei
 
 -- the filters of a strand whose shelf's output is v for each of its samples xs, and those of the other strand over ys
 unfoldable pub besideOf : Float → Weighing → Weighing → List Float → List Float → Beside
-besideOf v h o xs ys = record { held = weighing.heldRun v h xs; other = foldl weighing.stepOf o ys }
+besideOf v h o xs ys = record { held = heldRun v h xs; other = foldl weighing.stepOf o ys }
 
 unfoldable pub bandedOf : Bands → Bands → List Float → List Float → Banded
 bandedOf k b xs ys = record { key = foldl filters.stepOf k xs; bed = foldl filters.stepOf b ys }

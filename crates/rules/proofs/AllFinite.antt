@@ -15,8 +15,8 @@ use Rattle.float.specs.AllFinite.{allFinite}
 use Rattle.level.specs.declared.Level.{Level}
 use Rattle.level.specs.Valid as level
 use Rattle.detector.specs.declared.FeatureDetector.{FeatureDetector}
-use Rattle.detector.specs.declared.Smoothed.{Smoothed}
-use Rattle.detector.specs.declared.Smoothed.the-variants as smoothed
+use Rattle.detector.specs.declared.floor.Smoothed.{Smoothed}
+use Rattle.detector.specs.declared.floor.Smoothed.the-variants as smoothed
 use Rattle.detector.specs.Valid as detector
 use Rattle.vad.specs.declared.VadSettings.{VadSettings}
 use Rattle.vad.specs.declared.SpeechPower.{SpeechPower}

@@ -15,7 +15,7 @@ use Rattle.float.specs.Arithmetic.{zero64}
 use Rattle.level.specs.declared.Level.{Level}
 use Rattle.level.specs.Deque.{Meter, meterOf}
 use Rattle.level.specs.Valid as level
-use Rattle.detector.specs.declared.Floor.{Floor}
+use Rattle.detector.specs.declared.floor.Floor.{Floor}
 use Rattle.detector.specs.declared.FeatureDetector.{FeatureDetector}
 use Rattle.detector.specs.Rust.{RustFloor, RustDetector}
 use Rattle.detector.specs.Agrees as detector

@@ -10,7 +10,7 @@ use Rattle.level.specs.Bs1770.{shortTermFrames}
 use Rattle.float.specs.Arithmetic.{zero64}
 use Rattle.level.specs.declared.Level.{Level}
 use Rattle.level.specs.Deque.{Meter}
-use Rattle.detector.specs.declared.Floor.{Floor}
+use Rattle.detector.specs.declared.floor.Floor.{Floor}
 use Rattle.detector.specs.declared.FeatureDetector.{FeatureDetector}
 use Rattle.detector.specs.Rust.{RustFloor, RustDetector}
 use Rattle.vad.specs.declared.Decision.{Decision}

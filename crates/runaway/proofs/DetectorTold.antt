@@ -14,16 +14,16 @@ use Rattle.root.specs.Root.{sqrtOf}
 use Rattle.sequence.specs.History.{latest, held}
 use Rattle.float.specs.Arithmetic.{_⊗_, _⊘_}
 use Rattle.float.specs.AllFinite.{allFinite}
-use Rattle.detector.specs.declared.Ends.{Ends}
-use Rattle.detector.specs.declared.Bands.{Bands}
-use Rattle.detector.specs.declared.Floor.{Floor}
+use Rattle.detector.specs.declared.voicing.Ends.{Ends}
+use Rattle.detector.specs.declared.filters.Bands.{Bands}
+use Rattle.detector.specs.declared.floor.Floor.{Floor}
 use Rattle.detector.specs.declared.FeatureDetector.{FeatureDetector}
 use Rattle.detector.specs.declared.Heard.{Heard}
-use Rattle.detector.specs.Filters.{begun, runOf, outputsOf, eighths, keptOf, keepOf}
+use Rattle.detector.specs.Filters.{begun, statesOf, runOf, outputsOf, eighths, keptOf, keepOf}
 use Rattle.detector.specs.Floor.{minimaOf, nextOf, storedOf, floorOf}
 use Rattle.detector.specs.Modulation.{historyOf, modulationOf}
 use Rattle.detector.specs.Voicing.{tiny, energyOf, correlationOf, energiesAt, withRatio, without, turnOf, lagOf, lagsOf, silent, endsOf, startOf, unevenOf, windowOf, voicingOf}
-use Rattle.detector.specs.Detector.{statesOf, powersOf, numbersOf, finishOf, frameOf}
+use Rattle.detector.specs.Detector.{powersOf, numbersOf, finishOf, frameOf}
 use Rattle.detector.specs.Valid.{Valid}
 use Rattle.detector.proofs.Decimation.{kept-length}
 use Rattle.detector.proofs.Finished.{samples-all}

@@ -19,7 +19,7 @@ use Rattle.level.specs.Bs1770.{momentaryFrames, shortTermFrames}
 use Rattle.float.specs.Arithmetic.{_⊕_, _⊖_, _⊗_, _⊘_, zero64, one64, ten64}
 use Rattle.float.specs.AllFinite.{allFinite}
 use Rattle.level.specs.Level as level
-use Rattle.detector.specs.declared.Bands.{Bands}
+use Rattle.detector.specs.declared.filters.Bands.{Bands}
 use Rattle.detector.specs.declared.FeatureDetector.{FeatureDetector}
 use Rattle.detector.specs.Filters.{begun, runOf, outputsOf, eighths}
 use Rattle.detector.specs.Modulation.{varianceOf}

@@ -110,35 +110,26 @@ impl Ranges {
     fn outside_strand(self, s: VadSettings) -> bool
         ensures { λ r. ⌜ r ≡ outsideStrand self s ⌝ }
     {
-        let threshold = self.threshold;
-        let hold_ms = self.hold_ms;
-        let gate_lufs = self.gate_lufs;
-        threshold.outside(s.threshold)
-            | hold_ms.outside(s.hold_ms)
-            | gate_lufs.outside(s.gate_lufs.0)
+        self.threshold.outside(s.threshold)
+            | self.hold_ms.outside(s.hold_ms)
+            | self.gate_lufs.outside(s.gate_lufs.0)
     }
 
     // The same for the ducker's.
     fn outside_duck(self, d: Duck) -> bool
         ensures { λ r. ⌜ r ≡ outsideDuck self d ⌝ }
     {
-        let ratio_lu = self.ratio_lu;
-        let max_reduction_db = self.max_reduction_db;
-        let speed = self.speed;
-        ratio_lu.outside(d.target_lu)
-            | ratio_lu.outside(d.overvoice_lu)
-            | max_reduction_db.outside(d.max_reduction_db.0)
-            | speed.outside(d.speed)
+        self.ratio_lu.outside(d.target_lu)
+            | self.ratio_lu.outside(d.overvoice_lu)
+            | self.max_reduction_db.outside(d.max_reduction_db.0)
+            | self.speed.outside(d.speed)
     }
 
     // Whether a setting is outside its range, or isn't finite.
     pub fn outside_settings(self, s: Settings) -> bool
         ensures { λ r. ⌜ r ≡ outsideSettings self s ⌝ }
     {
-        let key = s.key;
-        let bed = s.bed;
-        let duck = s.duck;
-        self.outside_strand(key) | self.outside_strand(bed) | self.outside_duck(duck)
+        self.outside_strand(s.key) | self.outside_strand(s.bed) | self.outside_duck(s.duck)
     }
 }
 
@@ -176,13 +167,10 @@ fn stored_duck(d: Duck) -> Duck
 pub fn stored(s: Settings) -> Settings
     ensures { λ r. ⌜ r ≡ storedOf s ⌝ }
 {
-    let key = s.key;
-    let bed = s.bed;
-    let duck = s.duck;
     Settings {
-        key: stored_strand(key),
-        bed: stored_strand(bed),
-        duck: stored_duck(duck),
+        key: stored_strand(s.key),
+        bed: stored_strand(s.bed),
+        duck: stored_duck(s.duck),
     }
 }
 

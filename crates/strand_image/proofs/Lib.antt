@@ -1,4 +1,4 @@
-pub mod Runs
+pub mod Codecs
 pub mod Rules
 pub mod Valid
 pub mod Words

@@ -9,8 +9,8 @@ use lib.ListN.{getD}
 use lib.Dec.{T, eqb}
 use lib.Ieee.{Float, binary64, toBits}
 use Rattle.codec.specs.Fields.{zeroOf, numOf, capped, flagBits, ruled}
-use Rattle.codec.specs.Kept.{true-T, ruled-same, ruled-other}
-use Rattle.strand_image.specs.Strand.{window, windowRule, counts, countsRule}
+use Rattle.codec.proofs.Kept.{true-T, ruled-same, ruled-other}
+use Rattle.strand_image.specs.Strand.{window, windowRule, toCounts, counts, countsRule}
 use Rattle.strand_image.specs.declared.Window.{Window}
 use Rattle.strand_image.specs.declared.Counts.{Counts}
 
@@ -44,14 +44,13 @@ module _ (l : List ℕ) (i : ℕ) (f : Bool) (x : Float) (a b s : ℕ) (ef : f �
   blank = (false, (zeroOf binary64, (0, 0)))
 
   act : (w : Bool × (Float × (ℕ × ℕ))) → ruled countsRule blank (f, (x, (a, b))) ≡ w
-      → _≡_ {A = Counts} (record { active = w .0; probability = w .1 .0; onsets = w .1 .1 .0; offsets = w .1 .1 .1 }) (counts .dec l i)
+      → toCounts w ≡ counts .dec l i
   unfolding counts
   act w e =
-      let g : Bool × (Float × (ℕ × ℕ)) → Counts = λ p. record { active = p .0; probability = p .1 .0; onsets = p .1 .1 .0; offsets = p .1 .1 .1 } in
       let i2 : i + 2 ≡ i + 1 + 1 = omega arith in
       let i3 : i + 3 ≡ i + 1 + 1 + 1 = omega arith in
-      ap g (sym e)
-      ∙ ap (λ (p : Bool × (Float × (ℕ × ℕ))). g (ruled countsRule blank p))
+      ap toCounts (sym e)
+      ∙ ap (λ (p : Bool × (Float × (ℕ × ℕ))). toCounts (ruled countsRule blank p))
       (λ k. (ef k, (ex k, ((ea ∙ ap (λ (n : ℕ). capped 4294967296 (getD l n 0)) i2) k, (eb ∙ ap (λ (n : ℕ). capped 4294967296 (getD l n 0)) i3) k))))
 
   sum : b + s ≡ b + flagBits f

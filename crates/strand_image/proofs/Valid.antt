@@ -6,25 +6,26 @@ use native.Mathlib.Omega.{arith}
 use borrow.Author.Tests.{eq-eqb, eqb-true}
 use lib.Dec.{T, eqb}
 use lib.Ieee.{Float, binary64, toBits, ofBits}
-use lib.Ieee.Bits.{ofBits-toBits}
+use lib.Ieee.Bits.{is-true, ofBits-toBits}
 use Rattle.float.specs.Valid.{Num}
 use Rattle.codec.specs.Fields.{zeroOf, flagBits}
-use Rattle.codec.specs.Kept.{true-T, T-true}
+use Rattle.codec.proofs.Kept.{true-T}
 use Rattle.biquad.specs.declared.State.{State}
 use Rattle.level.specs.declared.Level.{Level}
 use Rattle.level.specs.Valid.{Settled}
 use Rattle.level.specs.Valid as level
-use Rattle.detector.specs.declared.Filters.{Filters}
-use Rattle.detector.specs.declared.Smoothed as smoothedPower
-use Rattle.detector.specs.declared.Smoothed.the-variants as smoothedPowerCases
-use Rattle.detector.specs.declared.Floor.{Floor}
+use Rattle.detector.specs.declared.filters.Filters.{Filters}
+use Rattle.detector.specs.declared.floor.Smoothed as smoothedPower
+use Rattle.detector.specs.declared.floor.Smoothed.the-variants as smoothedPowerCases
+use Rattle.detector.specs.declared.floor.Floor.{Floor}
 use Rattle.detector.specs.Valid.{FiltersValid, SmoothedValid, FloorValid}
 use Rattle.vad.specs.declared.SpeechPower as speechPower
 use Rattle.vad.specs.declared.SpeechPower.the-variants as speechPowerCases
 use Rattle.vad.specs.declared.Decision.{Decision}
 use Rattle.vad.specs.declared.Strand.{Strand}
 use Rattle.vad.specs.Valid.{PowerValid, DecisionValid, Valid}
-use Rattle.strand_image.specs.Strand.{state, filters, powers, decimated, minima, history, smoothed, power, windowRule, zero-bits, window, floor, counts, decision, front, strand}
+use Rattle.strand_image.specs.Strand.{state, filters, powers, decimated, minima, history, smoothed, power, windowRule, window, floor, counts, decision, front, strand}
+use Rattle.strand_image.proofs.Codecs.{zero-bits}
 
 -- ---- filters
 
@@ -85,7 +86,7 @@ valid-smoothed (smoothedPowerCases.At x) v = v
 -- the rule of an empty window, as a test and as a fact
 rule-empty : (x : Float) (n : ℕ) → Num binary64 x → T (windowRule (x, n)) → n ≡ 0 → x ≡ zeroOf binary64
 rule-empty x n num t e =
-    let z : eqb (toBits binary64 x) 0 ≡ true = T-true (eqb (toBits binary64 x) 0) (rw (eq-eqb n 0 e) at t) in
+    let z : eqb (toBits binary64 x) 0 ≡ true = is-true (eqb (toBits binary64 x) 0) (rw (eq-eqb n 0 e) at t) in
     sym (ofBits-toBits binary64 x (num .1)) ∙ ap (ofBits binary64) (eqb-true (toBits binary64 x) 0 z)
 
 empty-rule : (x : Float) (n : ℕ) → (n ≡ 0 → x ≡ zeroOf binary64) → T (windowRule (x, n))
@@ -132,7 +133,7 @@ decision-valid d ok =
     let n = ok .0 in
     record {
       probability = n .0 .1 .0;
-      counts = eqb-true (d .onsets) (d .offsets + flagBits (d .active)) (T-true _ (n .1));
+      counts = eqb-true (d .onsets) (d .offsets + flagBits (d .active)) (is-true _ (n .1));
       onsets = omega (arith, n .0 .1 .1 .0);
       hold = omega (arith, ok .1 .0);
       power = power-valid (d .power) (ok .1 .1);

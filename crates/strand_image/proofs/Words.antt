@@ -2,20 +2,22 @@
 use mathlib.Core.Path.{_≡_, refl, sym, ap, _∙_, subst}
 use mathlib.Core.Bool.{Bool, true, false, not, _||_}
 use mathlib.Core.List.{List, [], _∷_}
-use Prim.Native.Nat.{ℕ, _+_, _^_, _≤_, _<_}
+use Prim.Native.Nat.{ℕ, _+_, _≤_, _<_}
 use native.Mathlib.Omega.{arith}
 use borrow.Author.Tests.{eq-eqb, eqb-true}
 use lib.Dec.{T, eqb, lit<, lit≤}
 use lib.ListN.{getD, replicate}
 use lib.Ieee.{binary32, binary64, ofBits, toBits}
+use lib.Ieee.Bits.{is-true}
 use Rattle.blocks.specs.Lists.{Words}
-use Rattle.blocks.proofs.Lists.{below-replicate}
 use Rattle.codec.specs.Fields.{zeroOf, numOf, capped, flagBits}
-use Rattle.codec.specs.Codec.{Cell, Codec}
-use Rattle.codec.specs.Kept.{here-head, here-rest, zero-num, T-true, true-T, capped-same}
+use Rattle.codec.specs.Codec.{Codec}
+use Rattle.codec.proofs.Kept.{here-head, here-rest, zero-num, true-T, capped-same}
 use Rattle.codec.specs.Forms.{f64, f32, below, flag, one, fixed, pair, counted, maybe}
-use Rattle.strand_image.specs.Strand.{state, filters, powers, decimated, minima, history, fromSmoothed, toSmoothed, from-to-smoothed, to-from-smoothed, smoothed, fromPower, toPower, from-to-power, to-from-power, power, windowRule, window-blank, zero-bits, window, floor, countsRule, counts, decision, front, strand}
+use Rattle.strand_image.specs.Strand.{state, filters, powers, decimated, minima, history, fromSmoothed, toSmoothed, smoothed, fromPower, toPower, power, windowRule, window, floor, countsRule, counts, decision, front, strand}
 use Rattle.strand_image.specs.Words.{Finite64, Finite32, Flag, FilterWords, ListWords, OptionalWords, StrandWords}
+use Rattle.codec.proofs.Forms.{f64-laws, below-laws, flag-laws, one-laws, pair-laws}
+use Rattle.strand_image.proofs.Codecs.{state-laws, filters-laws, decimated-laws, history-laws, from-to-smoothed, smoothed-laws, from-to-power, zero-bits, window-blank, frames-laws, window-laws, floor-laws, tally-laws, parts-laws, counts-laws, front-laws}
 use Rattle.codec.proofs.Again.{Iff, Reads, here-cons, here-none, reads-one, reads-pair, reads-as-a, reads-also, reads-counted, reads-maybe, kept-float, kept-below, kept-flag}
 
 module _ (l : List ℕ) (s : Words l) where
@@ -36,22 +38,22 @@ module _ (l : List ℕ) (s : Words l) where
       let b = kept-flag (word k) in
       ((λ h. b .0 (a .0 h)), λ h. a .1 (b .1 h))
 
-  pub limited : (n : ℕ) (p : 0 < n) (q : n ≤ 2 ^ 64) (k : ℕ) → Iff (Reads (one (below n p q)) l k) (word k < n)
-  limited n p q k =
-      let a = reads-one (below n p q) l k in
-      let b = kept-below n p q (word k) in
+  pub limited : (n : ℕ) → 0 < n → (k : ℕ) → Iff (Reads (one (below n)) l k) (word k < n)
+  limited n p k =
+      let a = reads-one (below n) l k in
+      let b = kept-below n (word k) p in
       ((λ h. b .0 (a .0 h)), λ h. a .1 (b .1 h))
 
   -- ---- filters
 
   abbrev two : Codec (Unit {0})
-  two = fixed (replicate 2 0) (below-replicate (2 ^ 64) 2 0 (lit< tt))
+  two = fixed (replicate 2 0)
 
   state-words : (i : ℕ) → Iff (Reads state l i) (FilterWords l i)
   unfolding state
   state-words i =
-      let a = reads-pair (one f64) (pair (one f64) two) l i 1 (i + 1) refl refl in
-      let b = reads-pair (one f64) two l (i + 1) 1 (i + 2) refl (omega arith) in
+      let a = reads-pair (one-laws f64-laws) (pair (one f64) two) l i 1 (i + 1) refl refl in
+      let b = reads-pair (one-laws f64-laws) two l (i + 1) 1 (i + 2) refl (omega arith) in
       let e : i + 2 + 1 ≡ i + 3 = omega arith in (
         (λ h.
             let p = a .0 h in
@@ -76,9 +78,9 @@ module _ (l : List ℕ) (s : Words l) where
   unfolding filters state
   filters-words i =
       let w : (j : ℕ) → Iff (Reads state l j) (FilterWords l j) = λ j. (unfold state in state-words j) in
-      let a = reads-pair state (pair state (pair state state)) l i 4 (i + 4) refl refl in
-      let b = reads-pair state (pair state state) l (i + 4) 4 (i + 8) refl (omega arith) in
-      let c = reads-pair state state l (i + 8) 4 (i + 12) refl (omega arith) in (
+      let a = reads-pair state-laws (pair state (pair state state)) l i 4 (i + 4) refl refl in
+      let b = reads-pair state-laws (pair state state) l (i + 4) 4 (i + 8) refl (omega arith) in
+      let c = reads-pair state-laws state l (i + 8) 4 (i + 12) refl (omega arith) in (
         (λ h.
             let p = a .0 h in
             let q = b .0 (p .1) in
@@ -89,9 +91,9 @@ module _ (l : List ℕ) (s : Words l) where
 
   -- ---- lists
 
-  list-words : (n : ℕ) (q : n < 2 ^ 64) (i : ℕ) → Iff (Reads (counted f64 n q) l i) (ListWords Finite64 n l i)
-  list-words n q i =
-      let a = reads-counted f64 n q l i in (
+  list-words : (n i : ℕ) → Iff (Reads (counted f64 n) l i) (ListWords Finite64 n l i)
+  list-words n i =
+      let a = reads-counted f64 n l i in (
         (λ h.
             let r = a .0 h in
             record {
@@ -112,9 +114,9 @@ module _ (l : List ℕ) (s : Words l) where
   unfolding toBits ofBits
   zero-bits32 = refl
 
-  list-words32 : (n : ℕ) (q : n < 2 ^ 64) (i : ℕ) → Iff (Reads (counted f32 n q) l i) (ListWords Finite32 n l i)
-  list-words32 n q i =
-      let a = reads-counted f32 n q l i in (
+  list-words32 : (n i : ℕ) → Iff (Reads (counted f32 n) l i) (ListWords Finite32 n l i)
+  list-words32 n i =
+      let a = reads-counted f32 n l i in (
         (λ h.
             let r = a .0 h in
             record {
@@ -145,14 +147,14 @@ module _ (l : List ℕ) (s : Words l) where
   smoothed-words : (i : ℕ) → Iff (Reads smoothed l i) (OptionalWords l i)
   unfolding smoothed
   smoothed-words i =
-      let a = reads-as-a fromSmoothed toSmoothed from-to-smoothed to-from-smoothed (maybe f64) l i in
+      let a = reads-as-a fromSmoothed toSmoothed from-to-smoothed (maybe f64) l i in
       let b = optional-words i in
       ((λ h. b .0 (a .0 h)), λ w. a .1 (b .1 w))
 
   power-words : (i : ℕ) → Iff (Reads power l i) (OptionalWords l i)
   unfolding power
   power-words i =
-      let a = reads-as-a fromPower toPower from-to-power to-from-power (maybe f64) l i in
+      let a = reads-as-a fromPower toPower from-to-power (maybe f64) l i in
       let b = optional-words i in
       ((λ h. b .0 (a .0 h)), λ w. a .1 (b .1 w))
 
@@ -161,12 +163,9 @@ module _ (l : List ℕ) (s : Words l) where
   abbrev WindowWords : ℕ → Type 0
   WindowWords i = Finite64 (word i) × (word (i + 1) ≤ 24) × (word (i + 1) ≡ 0 → word i ≡ 0)
 
-  abbrev frames : Cell ℕ
-  frames = below 25 (lit< tt) (lit≤ tt)
-
   -- the rule of an empty window, as a test on two words and as a fact
   empty-of : (v w : ℕ) → T (not (eqb v 0) || eqb w 0) → v ≡ 0 → w ≡ 0
-  empty-of v w t e = eqb-true w 0 (T-true (eqb w 0) (rw (eq-eqb v 0 e) at t))
+  empty-of v w t e = eqb-true w 0 (is-true (eqb w 0) (rw (eq-eqb v 0 e) at t))
 
   of-empty : (v w : ℕ) → (v ≡ 0 → w ≡ 0) → T (not (eqb v 0) || eqb w 0)
   of-empty v w h = go (eqb v 0) refl
@@ -178,23 +177,23 @@ module _ (l : List ℕ) (s : Words l) where
   window-words : (i : ℕ) → Iff (Reads window l i) (WindowWords i)
   unfolding window
   window-words i =
-      let a = reads-also windowRule (zeroOf binary64, 0) (pair (one f64) (one frames)) (zero-num binary64, lit< tt) window-blank l i in
-      let b = reads-pair (one f64) (one frames) l i 1 (i + 1) refl refl in
-      let c = limited 25 (lit< tt) (lit≤ tt) (i + 1) in (
+      let a = reads-also windowRule (zeroOf binary64, 0) (pair-laws (one-laws f64-laws) (one-laws frames-laws)) (zero-num binary64, lit< tt) window-blank l i in
+      let b = reads-pair (one-laws f64-laws) (one (below 25)) l i 1 (i + 1) refl refl in
+      let c = limited 25 (lit< tt) (i + 1) in (
         (λ h.
             let p = a .0 h in
             let q = b .0 (p .0) in
             let x : toBits binary64 (numOf binary64 (word i)) ≡ word i = reads-one f64 l i .0 (q .0) in
-            let y : capped 25 (word (i + 1)) ≡ word (i + 1) = reads-one frames l (i + 1) .0 (q .1) in (
+            let y : capped 25 (word (i + 1)) ≡ word (i + 1) = reads-one (below 25) l (i + 1) .0 (q .1) in (
               number i .0 (q .0),
               omega (arith, c .0 (q .1)),
               empty-of (word (i + 1)) (word i) (rw (x, y) at (p .1)),
             )),
         λ w.
             let m : Reads (one f64) l i = number i .1 (w .0) in
-            let n : Reads (one frames) l (i + 1) = c .1 (omega (arith, w .1)) in
+            let n : Reads (one (below 25)) l (i + 1) = c .1 (omega (arith, w .1)) in
             let x : toBits binary64 (numOf binary64 (word i)) ≡ word i = reads-one f64 l i .0 m in
-            let y : capped 25 (word (i + 1)) ≡ word (i + 1) = reads-one frames l (i + 1) .0 n in
+            let y : capped 25 (word (i + 1)) ≡ word (i + 1) = reads-one (below 25) l (i + 1) .0 n in
             a .1 (b .1 (m, n), (rw (x, y) (of-empty (word (i + 1)) (word i) (w .2)))),
       )
 
@@ -203,17 +202,15 @@ module _ (l : List ℕ) (s : Words l) where
   abbrev CountWords : ℕ → Type 0
   CountWords i = Flag (word i) × Finite64 (word (i + 1)) × (word (i + 2) ≤ 4294967295) × (word (i + 2) ≡ word (i + 3) + word i)
 
-  abbrev tally : Cell ℕ
-  tally = below 4294967296 (lit< tt) (lit≤ tt)
-
   counts-words : (i : ℕ) → Iff (Reads counts l i) (CountWords i)
   unfolding counts
   counts-words i =
-      let a = reads-also countsRule (false, (zeroOf binary64, (0, 0))) (pair (one flag) (pair (one f64) (pair (one tally) (one tally)))) (tt, (zero-num binary64, (lit< tt, lit< tt))) tt l i in
-      let b = reads-pair (one flag) (pair (one f64) (pair (one tally) (one tally))) l i 1 (i + 1) refl refl in
-      let c = reads-pair (one f64) (pair (one tally) (one tally)) l (i + 1) 1 (i + 2) refl (omega arith) in
-      let d = reads-pair (one tally) (one tally) l (i + 2) 1 (i + 3) refl (omega arith) in
-      let m = limited 4294967296 (lit< tt) (lit≤ tt) in
+      let tally = below 4294967296 in
+      let a = reads-also countsRule (false, (zeroOf binary64, (0, 0))) parts-laws (tt, (zero-num binary64, (lit< tt, lit< tt))) tt l i in
+      let b = reads-pair (one-laws flag-laws) (pair (one f64) (pair (one tally) (one tally))) l i 1 (i + 1) refl refl in
+      let c = reads-pair (one-laws f64-laws) (pair (one tally) (one tally)) l (i + 1) 1 (i + 2) refl (omega arith) in
+      let d = reads-pair (one-laws tally-laws) (one tally) l (i + 2) 1 (i + 3) refl (omega arith) in
+      let m = limited 4294967296 (lit< tt) in
       let e2 : i + 1 + 1 ≡ i + 2 = omega arith in
       let e3 : i + 1 + 1 + 1 ≡ i + 3 = omega arith in
       let at : (j k : ℕ) → j ≡ k → word k < 4294967296 → capped 4294967296 (word j) ≡ word k =
@@ -229,7 +226,7 @@ module _ (l : List ℕ) (s : Words l) where
               flagged i .0 (q .0),
               number (i + 1) .0 (r .0),
               omega (arith, m (i + 2) .0 (t .0)),
-              eqb-true (word (i + 2)) (word (i + 3) + word i) (T-true _ (subst T (λ k. eqb (on k) (off k + f k)) (p .1))),
+              eqb-true (word (i + 2)) (word (i + 3) + word i) (is-true _ (subst T (λ k. eqb (on k) (off k + f k)) (p .1))),
             )),
         λ w.
             let lo : word (i + 2) < 4294967296 = omega (arith, w .2) in
@@ -249,11 +246,11 @@ module _ (l : List ℕ) (s : Words l) where
   floor-words : (i : ℕ) → Iff (Reads floor l i) (OptionalWords l i × WindowWords (i + 2) × ListWords Finite64 8 l (i + 4))
   unfolding floor smoothed window minima
   floor-words i =
-      let a = reads-pair smoothed (pair window minima) l i 2 (i + 2) refl refl in
-      let b = reads-pair window minima l (i + 2) 2 (i + 4) refl (omega arith) in
+      let a = reads-pair smoothed-laws (pair window minima) l i 2 (i + 2) refl refl in
+      let b = reads-pair window-laws minima l (i + 2) 2 (i + 4) refl (omega arith) in
       let x : Iff (Reads smoothed l i) (OptionalWords l i) = unfold smoothed in smoothed-words i in
       let y : Iff (Reads window l (i + 2)) (WindowWords (i + 2)) = unfold window in window-words (i + 2) in
-      let z : Iff (Reads minima l (i + 4)) (ListWords Finite64 8 l (i + 4)) = list-words 8 (lit< tt) (i + 4) in (
+      let z : Iff (Reads minima l (i + 4)) (ListWords Finite64 8 l (i + 4)) = list-words 8 (i + 4) in (
         (λ h. let p = a .0 h in let q = b .0 (p .1) in (x .0 (p .0), y .0 (q .0), z .0 (q .1))),
         λ w. a .1 (x .1 (w .0), b .1 (y .1 (w .1), z .1 (w .2))),
       )
@@ -261,11 +258,11 @@ module _ (l : List ℕ) (s : Words l) where
   decision-words : (i : ℕ) → Iff (Reads decision l i) (CountWords i × (word (i + 4) ≤ 6000) × OptionalWords l (i + 5))
   unfolding decision counts power
   decision-words i =
-      let hold = below 6001 (lit< tt) (lit≤ tt) in
-      let a = reads-pair counts (pair (one hold) power) l i 4 (i + 4) refl refl in
-      let b = reads-pair (one hold) power l (i + 4) 1 (i + 5) refl (omega arith) in
+      let hold = below 6001 in
+      let a = reads-pair counts-laws (pair (one hold) power) l i 4 (i + 4) refl refl in
+      let b = reads-pair (one-laws (below-laws 6001 (lit< tt) (lit≤ tt))) power l (i + 4) 1 (i + 5) refl (omega arith) in
       let x : Iff (Reads counts l i) (CountWords i) = unfold counts in counts-words i in
-      let y = limited 6001 (lit< tt) (lit≤ tt) (i + 4) in
+      let y = limited 6001 (lit< tt) (i + 4) in
       let z : Iff (Reads power l (i + 5)) (OptionalWords l (i + 5)) = unfold power in power-words (i + 5) in (
         (λ h. let p = a .0 h in let q = b .0 (p .1) in (x .0 (p .0), omega (arith, y .0 (q .0)), z .0 (q .1))),
         λ w. a .1 (x .1 (w .0), b .1 (y .1 (omega (arith, w .1)), z .1 (w .2))),
@@ -279,14 +276,14 @@ module _ (l : List ℕ) (s : Words l) where
   front-words : (i : ℕ) → Iff (Reads front l i) (FrontWords i)
   unfolding front state filters powers
   front-words i =
-      let a = reads-pair state (pair state (pair filters (pair (one f64) powers))) l i 4 (i + 4) refl refl in
-      let b = reads-pair state (pair filters (pair (one f64) powers)) l (i + 4) 4 (i + 8) refl (omega arith) in
-      let c = reads-pair filters (pair (one f64) powers) l (i + 8) 16 (i + 24) refl (omega arith) in
-      let d = reads-pair (one f64) powers l (i + 24) 1 (i + 25) refl (omega arith) in
+      let a = reads-pair state-laws (pair state (pair filters (pair (one f64) powers))) l i 4 (i + 4) refl refl in
+      let b = reads-pair state-laws (pair filters (pair (one f64) powers)) l (i + 4) 4 (i + 8) refl (omega arith) in
+      let c = reads-pair filters-laws (pair (one f64) powers) l (i + 8) 16 (i + 24) refl (omega arith) in
+      let d = reads-pair (one-laws f64-laws) powers l (i + 24) 1 (i + 25) refl (omega arith) in
       let w : (j : ℕ) → Iff (Reads state l j) (FilterWords l j) = λ j. (unfold state in state-words j) in
       let x : Iff (Reads filters l (i + 8)) (FilterWords l (i + 8) × FilterWords l (i + 8 + 4) × FilterWords l (i + 8 + 8) × FilterWords l (i + 8 + 12)) =
       unfold filters state in filters-words (i + 8) in
-      let z : Iff (Reads powers l (i + 25)) (ListWords Finite64 300 l (i + 25)) = list-words 300 (lit< tt) (i + 25) in (
+      let z : Iff (Reads powers l (i + 25)) (ListWords Finite64 300 l (i + 25)) = list-words 300 (i + 25) in (
         (λ h.
             let p = a .0 h in
             let q = b .0 (p .1) in
@@ -320,21 +317,21 @@ module _ (l : List ℕ) (s : Words l) where
   strand-parts : (i : ℕ) → Iff (Reads strand l i) (Parts i)
   unfolding strand
   strand-parts i =
-      let a = reads-pair front (pair decimated (pair floor (pair history decision))) l i 326 (i + 326) size-front refl in
-      let b = reads-pair decimated (pair floor (pair history decision)) l (i + 326) 241 (i + 567) size-decimated (omega arith) in
-      let c = reads-pair floor (pair history decision) l (i + 567) 13 (i + 580) size-floor (omega arith) in
-      let d = reads-pair history decision l (i + 580) 41 (i + 621) size-history (omega arith) in (
+      let a = reads-pair front-laws (pair decimated (pair floor (pair history decision))) l i 326 (i + 326) size-front refl in
+      let b = reads-pair decimated-laws (pair floor (pair history decision)) l (i + 326) 241 (i + 567) size-decimated (omega arith) in
+      let c = reads-pair floor-laws (pair history decision) l (i + 567) 13 (i + 580) size-floor (omega arith) in
+      let d = reads-pair history-laws decision l (i + 580) 41 (i + 621) size-history (omega arith) in (
         (λ h. let p = a .0 h in let q = b .0 (p .1) in let r = c .0 (q .1) in let t = d .0 (r .1) in (p .0, q .0, r .0, t .0, t .1)),
         λ w. a .1 (w .0, b .1 (w .1, c .1 (w .2, d .1 (w .3, w .4)))),
       )
 
   decimated-words : (i : ℕ) → Iff (Reads decimated l i) (ListWords Finite32 240 l i)
   unfolding decimated
-  decimated-words i = list-words32 240 (lit< tt) i
+  decimated-words i = list-words32 240 i
 
   history-words : (i : ℕ) → Iff (Reads history l i) (ListWords Finite64 40 l i)
   unfolding history
-  history-words i = list-words 40 (lit< tt) i
+  history-words i = list-words 40 i
 
   module _ (i : ℕ) where
     e12 : i + 8 + 4 ≡ i + 12

@@ -1,26 +1,23 @@
--- The 628 words of a strand, as codecs: each is how a part is written and read, with its laws. Definitions only.
-use mathlib.Core.Path.{_≡_, refl}
+-- The 628 words of a strand, as codecs: each is how a part is written and read, and which values it holds. Definitions only.
 use mathlib.Core.Bool.{Bool, false, not, _||_}
 use mathlib.Core.Option.{Option, none, some}
-use Prim.Native.Nat.{ℕ, _+_, _^_}
+use Prim.Native.Nat.{ℕ, _+_}
 use lib.ListN.{replicate}
-use lib.Dec.{T, eqb, lit<, lit≤}
-use lib.Ieee.{Float, binary64, toBits, ofBits}
-use Rattle.blocks.proofs.Lists.{below-replicate}
+use lib.Dec.{eqb}
+use lib.Ieee.{Float, binary64, toBits}
 use Rattle.codec.specs.Fields.{zeroOf, flagBits}
 use Rattle.codec.specs.Codec.{Codec}
-use Rattle.codec.specs.Kept.{zero-num}
 use Rattle.codec.specs.Forms.{f64, f32, below, flag, one, fixed, pair, as-a, also, counted, maybe}
 use Rattle.biquad.specs.declared.State.{State}
 use Rattle.level.specs.declared.Powers.{Powers}
 use Rattle.level.specs.declared.Level.{Level}
-use Rattle.detector.specs.declared.Filters.{Filters}
-use Rattle.detector.specs.declared.Decimated.{Decimated}
-use Rattle.detector.specs.declared.Smoothed as smoothedPower
-use Rattle.detector.specs.declared.Smoothed.the-variants as smoothedPowerCases
-use Rattle.detector.specs.declared.Minima.{Minima}
-use Rattle.detector.specs.declared.Floor.{Floor}
-use Rattle.detector.specs.declared.History.{History}
+use Rattle.detector.specs.declared.filters.Filters.{Filters}
+use Rattle.detector.specs.declared.filters.Decimated.{Decimated}
+use Rattle.detector.specs.declared.floor.Smoothed as smoothedPower
+use Rattle.detector.specs.declared.floor.Smoothed.the-variants as smoothedPowerCases
+use Rattle.detector.specs.declared.floor.Minima.{Minima}
+use Rattle.detector.specs.declared.floor.Floor.{Floor}
+use Rattle.detector.specs.declared.modulation.History.{History}
 use Rattle.vad.specs.declared.SpeechPower as speechPower
 use Rattle.vad.specs.declared.SpeechPower.the-variants as speechPowerCases
 use Rattle.vad.specs.declared.Decision.{Decision}
@@ -32,28 +29,28 @@ use Rattle.strand_image.specs.declared.Counts.{Counts}
 
 -- the numbers of a filter, and two words unused
 unfoldable pub state : Codec State
-state = as-a (λ s. (s .z1, (s .z2, tt))) (λ p. record { z1 = p .0; z2 = p .1 .0 }) (λ a. refl) (λ b. refl)
-    (pair (one f64) (pair (one f64) (fixed (replicate 2 0) (below-replicate (2 ^ 64) 2 0 (lit< tt)))))
+state = as-a (λ s. (s .z1, (s .z2, tt))) (λ p. record { z1 = p .0; z2 = p .1 .0 })
+    (pair (one f64) (pair (one f64) (fixed (replicate 2 0))))
 
 -- the band pair and the pitch pair
 unfoldable pub filters : Codec Filters
 filters = as-a (λ f. (f .«high_pass», (f .«low_pass», (f .pitch1, f .pitch2))))
-    (λ p. record { «high_pass» = p .0; «low_pass» = p .1 .0; pitch1 = p .1 .1 .0; pitch2 = p .1 .1 .1 }) (λ a. refl) (λ b. refl)
+    (λ p. record { «high_pass» = p .0; «low_pass» = p .1 .0; pitch1 = p .1 .1 .0; pitch2 = p .1 .1 .1 })
     (pair state (pair state (pair state state)))
 
 -- ---- lists: a count, and the values, oldest first
 
 unfoldable pub powers : Codec Powers
-powers = as-a (λ s. (s .count, s .list)) (λ p. record { count = p .0; list = p .1 }) (λ a. refl) (λ b. refl) (counted f64 300 (lit< tt))
+powers = as-a (λ s. (s .count, s .list)) (λ p. record { count = p .0; list = p .1 }) (counted f64 300)
 
 unfoldable pub decimated : Codec Decimated
-decimated = as-a (λ s. (s .count, s .list)) (λ p. record { count = p .0; list = p .1 }) (λ a. refl) (λ b. refl) (counted f32 240 (lit< tt))
+decimated = as-a (λ s. (s .count, s .list)) (λ p. record { count = p .0; list = p .1 }) (counted f32 240)
 
 unfoldable pub minima : Codec Minima
-minima = as-a (λ s. (s .count, s .list)) (λ p. record { count = p .0; list = p .1 }) (λ a. refl) (λ b. refl) (counted f64 8 (lit< tt))
+minima = as-a (λ s. (s .count, s .list)) (λ p. record { count = p .0; list = p .1 }) (counted f64 8)
 
 unfoldable pub history : Codec History
-history = as-a (λ s. (s .count, s .list)) (λ p. record { count = p .0; list = p .1 }) (λ a. refl) (λ b. refl) (counted f64 40 (lit< tt))
+history = as-a (λ s. (s .count, s .list)) (λ p. record { count = p .0; list = p .1 }) (counted f64 40)
 
 -- ---- a value or none: a flag, and the value
 
@@ -65,16 +62,8 @@ abbrev pub toSmoothed : Option Float → smoothedPower.Smoothed
 toSmoothed none = smoothedPowerCases.Unset
 toSmoothed (some x) = smoothedPowerCases.At x
 
-pub from-to-smoothed : (a : Option Float) → fromSmoothed (toSmoothed a) ≡ a
-from-to-smoothed none = refl
-from-to-smoothed (some x) = refl
-
-pub to-from-smoothed : (a : smoothedPower.Smoothed) → toSmoothed (fromSmoothed a) ≡ a
-to-from-smoothed smoothedPowerCases.Unset = refl
-to-from-smoothed (smoothedPowerCases.At x) = refl
-
 unfoldable pub smoothed : Codec smoothedPower.Smoothed
-smoothed = as-a fromSmoothed toSmoothed from-to-smoothed to-from-smoothed (maybe f64)
+smoothed = as-a fromSmoothed toSmoothed (maybe f64)
 
 abbrev pub fromPower : speechPower.SpeechPower → Option Float
 fromPower speechPowerCases.Unset = none
@@ -84,16 +73,8 @@ abbrev pub toPower : Option Float → speechPower.SpeechPower
 toPower none = speechPowerCases.Unset
 toPower (some x) = speechPowerCases.At x
 
-pub from-to-power : (a : Option Float) → fromPower (toPower a) ≡ a
-from-to-power none = refl
-from-to-power (some x) = refl
-
-pub to-from-power : (a : speechPower.SpeechPower) → toPower (fromPower a) ≡ a
-to-from-power speechPowerCases.Unset = refl
-to-from-power (speechPowerCases.At x) = refl
-
 unfoldable pub power : Codec speechPower.SpeechPower
-power = as-a fromPower toPower from-to-power to-from-power (maybe f64)
+power = as-a fromPower toPower (maybe f64)
 
 -- ---- the noise floor
 
@@ -101,21 +82,14 @@ power = as-a fromPower toPower from-to-power to-from-power (maybe f64)
 abbrev pub windowRule : Float × ℕ → Bool
 windowRule p = not (eqb (p .1) 0) || eqb (toBits binary64 (p .0)) 0
 
-pub zero-bits : toBits binary64 (zeroOf binary64) ≡ 0
-unfolding toBits ofBits
-zero-bits = refl
-
-pub window-blank : T (windowRule (zeroOf binary64, 0))
-window-blank = rw zero-bits tt
-
 -- the window's minimum, and its frames, 0 to 24
 unfoldable pub window : Codec Window
-window = as-a (λ s. (s .least, s .frames)) (λ p. record { least = p .0; frames = p .1 }) (λ a. refl) (λ b. refl)
-    (also windowRule (zeroOf binary64, 0) (pair (one f64) (one (below 25 (lit< tt) (lit≤ tt)))) (zero-num binary64, lit< tt) window-blank)
+window = as-a (λ s. (s .least, s .frames)) (λ p. record { least = p .0; frames = p .1 })
+    (also windowRule (zeroOf binary64, 0) (pair (one f64) (one (below 25))))
 
 unfoldable pub floor : Codec Floor
 floor = as-a (λ f. (f .smoothed, (record { least = f .«window_min»; frames = f .«window_frames» }, f .minima)))
-    (λ p. record { smoothed = p .0; «window_min» = p .1 .0 .least; «window_frames» = p .1 .0 .frames; minima = p .1 .1 }) (λ a. refl) (λ b. refl)
+    (λ p. record { smoothed = p .0; «window_min» = p .1 .0 .least; «window_frames» = p .1 .0 .frames; minima = p .1 .1 })
     (pair smoothed (pair window minima))
 
 -- ---- the decision
@@ -124,27 +98,30 @@ floor = as-a (λ f. (f .smoothed, (record { least = f .«window_min»; frames = 
 abbrev pub countsRule : Bool × (Float × (ℕ × ℕ)) → Bool
 countsRule p = eqb (p .1 .1 .0) (p .1 .1 .1 + flagBits (p .0))
 
+abbrev pub fromCounts : Counts → Bool × (Float × (ℕ × ℕ))
+fromCounts s = (s .active, (s .probability, (s .onsets, s .offsets)))
+
+abbrev pub toCounts : Bool × (Float × (ℕ × ℕ)) → Counts
+toCounts p = record { active = p .0; probability = p .1 .0; onsets = p .1 .1 .0; offsets = p .1 .1 .1 }
+
 -- active, the probability, onsets and offsets, at most 4,294,967,295
 unfoldable pub counts : Codec Counts
-counts = as-a (λ s. (s .active, (s .probability, (s .onsets, s .offsets))))
-    (λ p. record { active = p .0; probability = p .1 .0; onsets = p .1 .1 .0; offsets = p .1 .1 .1 }) (λ a. refl) (λ b. refl)
+counts = as-a fromCounts toCounts
     (also countsRule (false, (zeroOf binary64, (0, 0)))
-    (pair (one flag) (pair (one f64) (pair (one (below 4294967296 (lit< tt) (lit≤ tt))) (one (below 4294967296 (lit< tt) (lit≤ tt))))))
-    (tt, (zero-num binary64, (lit< tt, lit< tt))) tt)
+    (pair (one flag) (pair (one f64) (pair (one (below 4294967296)) (one (below 4294967296))))))
 
 -- the counts, the hold, 0 to 6,000, and the speech power
 unfoldable pub decision : Codec Decision
 decision = as-a (λ d. (record { active = d .active; probability = d .probability; onsets = d .onsets; offsets = d .offsets }, (d .hold, d .power)))
     (λ p. record { active = p .0 .active; probability = p .0 .probability; onsets = p .0 .onsets; offsets = p .0 .offsets; hold = p .1 .0; power = p .1 .1 })
-    (λ a. refl) (λ b. refl)
-    (pair counts (pair (one (below 6001 (lit< tt) (lit≤ tt))) power))
+    (pair counts (pair (one (below 6001)) power))
 
 -- ---- the strand
 
 -- its front: the six filters, the fast mean square and the powers
 unfoldable pub front : Codec (Level × Filters)
 front = as-a (λ p. (p .0 .shelf, (p .0 .«high_pass», (p .1, (p .0 .fast, p .0 .powers)))))
-    (λ q. (record { shelf = q .0; «high_pass» = q .1 .0; fast = q .1 .1 .1 .0; powers = q .1 .1 .1 .1 }, q .1 .1 .0)) (λ a. refl) (λ b. refl)
+    (λ q. (record { shelf = q .0; «high_pass» = q .1 .0; fast = q .1 .1 .1 .0; powers = q .1 .1 .1 .1 }, q .1 .1 .0))
     (pair state (pair state (pair filters (pair (one f64) powers))))
 
 unfoldable pub strand : Codec Strand
@@ -153,5 +130,5 @@ strand = as-a (λ s. ((s .level, s .detector .filters), (s .detector .decimated,
       level = p .0 .0;
       detector = record { filters = p .0 .1; decimated = p .1 .0; floor = p .1 .1 .0; history = p .1 .1 .1 .0 };
       decision = p .1 .1 .1 .1;
-    }) (λ a. refl) (λ b. refl)
+    })
     (pair front (pair decimated (pair floor (pair history decision))))

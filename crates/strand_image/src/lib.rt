@@ -2,7 +2,7 @@
 // words differ from those read.
 ghost use mathlib.Core.Path.{_≡_};
 ghost use Prim.Native.Nat.{_+_, _^_, _≤_};
-ghost use Rattle.strand_image.specs.Run.{Run};
+ghost use Rattle.codec.specs.Run.{Run};
 ghost use Rattle.strand_image.specs.Strand.{
   state,
   filters,
@@ -50,15 +50,6 @@ const HISTORY: usize = 580;
 
 const DECISION: usize = 621;
 
-// A count is below these: one more than the places after it.
-const POWERS_COUNT: u64 = 301;
-
-const DECIMATED_COUNT: u64 = 241;
-
-const MINIMA_COUNT: u64 = 9;
-
-const HISTORY_COUNT: u64 = 41;
-
 const WINDOW: u64 = 25; // frames: a window closes with the 25th
 
 const COUNTS: u64 = 0x1_0000_0000; // onsets and offsets are below it
@@ -101,70 +92,44 @@ fn put_filters(w: &mut [u64], at: usize, f: Filters)
 }
 
 fn put_powers(w: &mut [u64], at: usize, p: Powers)
-    requires { ⌜ at + 301 ≤ 2 ^ 64 ⌝ }
     ensures { λ _. ⌜ Run (now (w .entry)) at 301 (powers .enc p) (now (w .exit)) ⌝ }
 {
-    let list = p.list;
-    codec::put(w, at, p.count as u64);
-    codec::put_all(w, at + 1, &list);
+    codec::put_list(w, at, p.count, &p.list);
 }
 
 fn put_decimated(w: &mut [u64], at: usize, p: Decimated)
-    requires { ⌜ at + 241 ≤ 2 ^ 64 ⌝ }
     ensures { λ _. ⌜ Run (now (w .entry)) at 241 (decimated .enc p) (now (w .exit)) ⌝ }
 {
-    let list = p.list;
-    codec::put(w, at, p.count as u64);
-    codec::put_all32(w, at + 1, &list);
+    codec::put_list32(w, at, p.count, &p.list);
 }
 
 fn put_minima(w: &mut [u64], at: usize, p: Minima)
-    requires { ⌜ at + 9 ≤ 2 ^ 64 ⌝ }
     ensures { λ _. ⌜ Run (now (w .entry)) at 9 (minima .enc p) (now (w .exit)) ⌝ }
 {
-    let list = p.list;
-    codec::put(w, at, p.count as u64);
-    codec::put_all(w, at + 1, &list);
+    codec::put_list(w, at, p.count, &p.list);
 }
 
 fn put_history(w: &mut [u64], at: usize, p: History)
-    requires { ⌜ at + 41 ≤ 2 ^ 64 ⌝ }
     ensures { λ _. ⌜ Run (now (w .entry)) at 41 (history .enc p) (now (w .exit)) ⌝ }
 {
-    let list = p.list;
-    codec::put(w, at, p.count as u64);
-    codec::put_all(w, at + 1, &list);
+    codec::put_list(w, at, p.count, &p.list);
 }
 
 fn put_smoothed(w: &mut [u64], at: usize, s: Smoothed)
-    requires { ⌜ at + 2 ≤ 2 ^ 64 ⌝ }
     ensures { λ _. ⌜ Run (now (w .entry)) at 2 (smoothed .enc s) (now (w .exit)) ⌝ }
 {
     match s {
-        Smoothed::Unset => {
-            codec::put(w, at, 0);
-            codec::put(w, at + 1, 0);
-        }
-        Smoothed::At(x) => {
-            codec::put(w, at, 1);
-            codec::put64(w, at + 1, x);
-        }
+        Smoothed::Unset => codec::put_zeros(w, at, 2),
+        Smoothed::At(x) => codec::put_some(w, at, x),
     }
 }
 
 fn put_power(w: &mut [u64], at: usize, s: SpeechPower)
-    requires { ⌜ at + 2 ≤ 2 ^ 64 ⌝ }
     ensures { λ _. ⌜ Run (now (w .entry)) at 2 (power .enc s) (now (w .exit)) ⌝ }
 {
     match s {
-        SpeechPower::Unset => {
-            codec::put(w, at, 0);
-            codec::put(w, at + 1, 0);
-        }
-        SpeechPower::At(x) => {
-            codec::put(w, at, 1);
-            codec::put64(w, at + 1, x);
-        }
+        SpeechPower::Unset => codec::put_zeros(w, at, 2),
+        SpeechPower::At(x) => codec::put_some(w, at, x),
     }
 }
 
@@ -209,11 +174,10 @@ pub fn put_strand(w: &mut [u64], at: u16, s: Strand)
     ensures { λ _. ⌜ Run (now (w .entry)) at 628 (strand .enc s) (now (w .exit)) ⌝ }
 {
     let i = at as usize;
-    let detector = s.detector;
-    put_front(w, i, s.level, detector.filters);
-    put_decimated(w, i + DECIMATED, detector.decimated);
-    put_floor(w, i + FLOOR, detector.floor);
-    put_history(w, i + HISTORY, detector.history);
+    put_front(w, i, s.level, s.detector.filters);
+    put_decimated(w, i + DECIMATED, s.detector.decimated);
+    put_floor(w, i + FLOOR, s.detector.floor);
+    put_history(w, i + HISTORY, s.detector.history);
     put_decision(w, i + DECISION, s.decision);
 }
 
@@ -244,60 +208,35 @@ fn get_filters(w: &[u64], at: usize) -> Filters
     }
 }
 
-// Places to read into.
-fn places300() -> [f64; 300] {
-    [0.0; 300]
-}
-
-fn places240() -> [f32; 240] {
-    [0.0; 240]
-}
-
-fn places8() -> [f64; 8] {
-    [0.0; 8]
-}
-
-fn places40() -> [f64; 40] {
-    [0.0; 40]
-}
-
 fn get_powers(w: &[u64], at: usize) -> Powers
-    requires { ⌜ at + 301 ≤ 2 ^ 64 ⌝ }
     ensures { λ r. ⌜ r ≡ powers .dec (now (w .entry)) at ⌝ }
 {
-    let count = codec::get_capped(w, at, POWERS_COUNT) as usize;
-    let mut list = places300();
-    codec::get_all(w, at + 1, count, &mut list);
+    let mut list: [f64; 300] = [0.0; 300];
+    let count = codec::get_list(w, at, &mut list);
     Powers { count, list }
 }
 
 fn get_decimated(w: &[u64], at: usize) -> Decimated
-    requires { ⌜ at + 241 ≤ 2 ^ 64 ⌝ }
     ensures { λ r. ⌜ r ≡ decimated .dec (now (w .entry)) at ⌝ }
 {
-    let count = codec::get_capped(w, at, DECIMATED_COUNT) as usize;
-    let mut list = places240();
-    codec::get_all32(w, at + 1, count, &mut list);
+    let mut list: [f32; 240] = [0.0; 240];
+    let count = codec::get_list32(w, at, &mut list);
     Decimated { count, list }
 }
 
 fn get_minima(w: &[u64], at: usize) -> Minima
-    requires { ⌜ at + 9 ≤ 2 ^ 64 ⌝ }
     ensures { λ r. ⌜ r ≡ minima .dec (now (w .entry)) at ⌝ }
 {
-    let count = codec::get_capped(w, at, MINIMA_COUNT) as usize;
-    let mut list = places8();
-    codec::get_all(w, at + 1, count, &mut list);
+    let mut list: [f64; 8] = [0.0; 8];
+    let count = codec::get_list(w, at, &mut list);
     Minima { count, list }
 }
 
 fn get_history(w: &[u64], at: usize) -> History
-    requires { ⌜ at + 41 ≤ 2 ^ 64 ⌝ }
     ensures { λ r. ⌜ r ≡ history .dec (now (w .entry)) at ⌝ }
 {
-    let count = codec::get_capped(w, at, HISTORY_COUNT) as usize;
-    let mut list = places40();
-    codec::get_all(w, at + 1, count, &mut list);
+    let mut list: [f64; 40] = [0.0; 40];
+    let count = codec::get_list(w, at, &mut list);
     History { count, list }
 }
 

@@ -15,12 +15,12 @@ ghost use Rattle.words.specs.Words.{
   settingsFrom,
 };
 use chain::Answer;
-use settings::Settings;
 use codec::flag_bits;
 use float::Db;
 use float::Lufs;
 use ratio::Duck;
 use ratio::RatioStatus;
+use settings::Settings;
 use vad::SpeechLevel;
 use vad::VadSettings;
 use vad::VadState;

@@ -1,6 +1,6 @@
 -- `codec::capped` meets its contract.
 use mathlib.Core.Path.{sym}
-use Rattle.codec.specs.Kept.{capped-same, capped-out}
+use Rattle.codec.proofs.Kept.{capped-same, capped-out}
 use Rattle.codec.proofs.capped.Statement.{statement}
 use Rattle.codec.proofs.capped.Tie as tie
 

@@ -1,6 +1,6 @@
 -- `image::put_chain` meets its contract: one run of words after another.
 use native.Mathlib.Omega.{arith}
-use Rattle.strand_image.proofs.Runs.{then, single, these}
+use Rattle.codec.proofs.Runs.{then, single, these}
 use Rattle.image.specs.Chain.{chain}
 use Prim.Native.Nat.{ℕ}
 use lib.ListN.{length-replicate}

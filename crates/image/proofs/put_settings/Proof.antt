@@ -1,6 +1,6 @@
 -- `image::put_settings` meets its contract: one run of words after another.
 use native.Mathlib.Omega.{arith}
-use Rattle.strand_image.proofs.Runs.{then}
+use Rattle.codec.proofs.Runs.{then}
 use Rattle.image.specs.Chain.{settings, numbers}
 use borrow.Author.Needs.{needs}
 use Rattle.image.proofs.put_settings.Statement.{statement}

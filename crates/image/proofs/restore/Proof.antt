@@ -1,6 +1,5 @@
 -- `image::restore` meets its contract: read, written again, and compared.
-use mathlib.Core.Path.{_≡_}
-use lib.ListN.{length}
+use mathlib.Core.Path.{refl}
 use Rattle.image.proofs.Calls.{wrong-length, bad-check, good, foreign}
 use borrow.Author.Needs.{needs}
 use Rattle.image.proofs.restore.Statement.{statement}
@@ -15,9 +14,6 @@ first-bad-requires c κs = search needs
 returns-2 : tie.Need-returns-2
 returns-2 c = bad-check _ _ _ (c .before .before .if1 .left) (c .before .first-bad .ensures) (c .if2 .taken)
 
-words-requires : tie.Need-words-requires
-words-requires c κs = search needs
-
 slice-aggregate-payload : tie.Need-slice-aggregate-payload
 slice-aggregate-payload c = search needs
 
@@ -29,9 +25,6 @@ slice-aggregate-get-chain c = search needs
 
 get-chain-requires : tie.Need-get-chain-requires
 get-chain-requires c κs = search needs
-
-bytes-requires : tie.Need-bytes-requires
-bytes-requires c κs = search needs
 
 slice-aggregate-save : tie.Need-slice-aggregate-save
 slice-aggregate-save c = search needs
@@ -47,15 +40,13 @@ same-requires c κs = search needs
 
 returns-3 : tie.Need-returns-3
 returns-3 c =
-    let l : length (c .before .before .before .before .before .before .before .before .before .before .before .before .words .result) ≡ 1323 = search needs in
-    let m : length (c .before .before .before .before .before .before .bytes .result) ≡ 10752 = search needs in
-    good _ _ _ _ _ _ _ _ _ (c .before .before .before .before .before .before .before .before .before .before .before .before .before .before .before .if1 .left) (c .before .before .before .before .before .before .before .before .before .before .before .before .before .before .first-bad .ensures) (c .before .before .before .before .before .before .before .before .before .before .before .before .before .if2 .left) l (c .before .before .before .before .before .before .before .before .before .before .payload .ensures) (c .before .before .before .before .before .before .before .get-chain .ensures) m (c .before .before .before .before .save .ensures .1) (c .before .same .ensures) (c .if3 .taken)
+    good _ _ _ _ _ _ _ _ _ (c .before .before .before .before .before .before .before .before .before .before .before .before .before .if1 .left) (c .before .before .before .before .before .before .before .before .before .before .before .before .first-bad .ensures) (c .before .before .before .before .before .before .before .before .before .before .before .if2 .left) refl
+    (c .before .before .before .before .before .before .before .before .before .payload .ensures) (c .before .before .before .before .before .before .get-chain .ensures) refl (c .before .before .before .before .save .ensures .1) (c .before .same .ensures) (c .if3 .taken)
 
 returns-4 : tie.Need-returns-4
 returns-4 c =
-    let l : length (c .before .before .before .before .before .before .before .before .before .before .before .before .words .result) ≡ 1323 = search needs in
-    let m : length (c .before .before .before .before .before .before .bytes .result) ≡ 10752 = search needs in
-    foreign _ _ _ _ _ _ _ _ _ (c .before .before .before .before .before .before .before .before .before .before .before .before .before .before .before .if1 .left) (c .before .before .before .before .before .before .before .before .before .before .before .before .before .before .first-bad .ensures) (c .before .before .before .before .before .before .before .before .before .before .before .before .before .if2 .left) l (c .before .before .before .before .before .before .before .before .before .before .payload .ensures) (c .before .before .before .before .before .before .before .get-chain .ensures) m (c .before .before .before .before .save .ensures .1) (c .before .same .ensures) (c .if3 .left)
+    foreign _ _ _ _ _ _ _ _ _ (c .before .before .before .before .before .before .before .before .before .before .before .before .before .if1 .left) (c .before .before .before .before .before .before .before .before .before .before .before .before .first-bad .ensures) (c .before .before .before .before .before .before .before .before .before .before .before .if2 .left) refl
+    (c .before .before .before .before .before .before .before .before .before .payload .ensures) (c .before .before .before .before .before .before .get-chain .ensures) refl (c .before .before .before .before .save .ensures .1) (c .before .same .ensures) (c .if3 .left)
 
 pub restore-spec : {M : Type 1} → statement M
-restore-spec = tie.close (tie.spec returns first-bad-requires returns-2 words-requires slice-aggregate-payload payload-requires slice-aggregate-get-chain get-chain-requires bytes-requires slice-aggregate-save save-requires slice-aggregate-same same-requires returns-3 returns-4)
+restore-spec = tie.close (tie.spec returns first-bad-requires returns-2 slice-aggregate-payload payload-requires slice-aggregate-get-chain get-chain-requires slice-aggregate-save save-requires slice-aggregate-same same-requires returns-3 returns-4)

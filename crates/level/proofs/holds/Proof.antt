@@ -16,9 +16,9 @@ same-state-requires c κs = search needs
 returns : tie.Need-returns
 unfolding holdsOf
 returns c =
-    let e = ap (λ (u : Ticked). u .state) (c .before .before .tick .ensures) in
+    let e = ap (λ (u : Ticked). u .state) (c .before .tick .ensures) in
     let s = c .same-state .ensures in
-    (s .0 ∙ ap (λ (u : State). sameState u (c .before .before .before .args .s)) e, λ t. sym e ∙ s .1 t)
+    (s .0 ∙ ap (λ (u : State). sameState u (c .before .before .args .s)) e, λ t. sym e ∙ s .1 t)
 
 pub holds-spec : {M : Type 1} → statement M
 holds-spec = tie.close (tie.spec tick-requires same-state-requires returns)

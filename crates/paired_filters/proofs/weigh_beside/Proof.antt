@@ -8,7 +8,8 @@ use lib.Ieee.{Float, nan}
 use borrow.Author.Needs.{needs}
 use Rattle.sequence.proofs.Fold.{fold-turn, fold-end}
 use Rattle.level.specs.declared.Weighing.{Weighing}
-use Rattle.level.specs.Weighing.{stepOf, heldStep, heldRun}
+use Rattle.level.specs.Weighing.{stepOf}
+use Rattle.level.specs.Rest.{heldStep, heldRun}
 use Rattle.paired_filters.specs.Pairs.{besideOf}
 use Rattle.paired_filters.proofs.weigh_beside.Statement.{statement}
 use Rattle.paired_filters.proofs.weigh_beside.Tie as tie

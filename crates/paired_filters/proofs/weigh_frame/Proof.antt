@@ -6,7 +6,8 @@ use lib.ListN.{getD}
 use lib.Ieee.{Float, nan}
 use borrow.Author.Needs.{needs}
 use Rattle.level.specs.declared.Weighing.{Weighing}
-use Rattle.level.specs.Weighing.{stepOf, shelfOutput, heldRun}
+use Rattle.level.specs.Weighing.{stepOf}
+use Rattle.level.specs.Rest.{shelfOutput, heldRun}
 use Rattle.paired_filters.specs.declared.Beside.{Beside}
 use Rattle.paired_filters.specs.Pairs.{weighedOf, weighedPairs, besideOf}
 use Rattle.paired_filters.proofs.weigh_frame.Statement.{statement}

@@ -6,7 +6,7 @@ use lib.Dec.{lit<}
 use lib.ListN.{getD}
 use lib.Ieee.{ofBits}
 use Rattle.codec.specs.Fields.{flagBits}
-use Rattle.codec.specs.Kept.{capped-lt}
+use Rattle.codec.proofs.Kept.{capped-lt}
 use Rattle.strand_image.proofs.Rules.{counts-good, counts-bad}
 use borrow.Author.Needs.{needs}
 use Rattle.strand_image.proofs.get_counts.Statement.{statement}

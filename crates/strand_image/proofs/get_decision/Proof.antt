@@ -5,7 +5,7 @@ use Rattle.strand_image.specs.Strand.{decision, counts, power}
 use Prim.Native.Nat.{_+_}
 use lib.Dec.{lit<}
 use lib.ListN.{getD}
-use Rattle.codec.specs.Kept.{capped-lt}
+use Rattle.codec.proofs.Kept.{capped-lt}
 use borrow.Author.Needs.{needs}
 use Rattle.strand_image.proofs.get_decision.Statement.{statement}
 use Rattle.strand_image.proofs.get_decision.Tie as tie

@@ -3,8 +3,8 @@ use mathlib.Core.Path.{sym, ap, _∙_}
 use borrow.Author.Tests.{eq-eqb, ne-eqb}
 use Rattle.codec.specs.Codec.{maybeOf}
 use Rattle.strand_image.specs.Strand.{smoothed}
-use Rattle.detector.specs.declared.Smoothed.{Smoothed}
-use Rattle.detector.specs.declared.Smoothed.the-variants.{At}
+use Rattle.detector.specs.declared.floor.Smoothed.{Smoothed}
+use Rattle.detector.specs.declared.floor.Smoothed.the-variants.{At}
 use borrow.Author.Needs.{needs}
 use Rattle.strand_image.proofs.get_smoothed.Statement.{statement}
 use Rattle.strand_image.proofs.get_smoothed.Tie as tie

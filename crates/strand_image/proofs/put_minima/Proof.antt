@@ -1,36 +1,20 @@
--- `strand_image::put_minima` meets its contract: one run of words after another.
-use mathlib.Core.Path.{_≡_, _∙_}
-use native.Mathlib.Omega.{arith}
-use Rattle.strand_image.proofs.Runs.{then, single, these}
-use Rattle.strand_image.specs.Strand.{minima}
-use lib.ListN.{length, length-map}
+-- `strand_image::put_minima` meets its contract: a counted list.
 use lib.Ieee.{binary64, toBits}
+use Rattle.codec.proofs.Runs.{listed}
+use Rattle.strand_image.specs.Strand.{minima}
 use borrow.Author.Needs.{needs}
 use Rattle.strand_image.proofs.put_minima.Statement.{statement}
 use Rattle.strand_image.proofs.put_minima.Tie as tie
 
-put-requires : tie.Need-put-requires
-put-requires c κs = search needs
-
-add-put-all : tie.Need-add-put-all
-add-put-all c = search needs
-
-slice-aggregate-put-all : tie.Need-slice-aggregate-put-all
-slice-aggregate-put-all c = search needs
-
-put-all-requires : tie.Need-put-all-requires
-put-all-requires c κs = search needs
+put-list-requires : tie.Need-put-list-requires
+put-list-requires c κs = search needs
 
 same-length : tie.Need-same-length
 same-length c = search needs
 
 returns : tie.Need-returns
 unfolding minima
-returns c =
-    let p = c .before .before .before .before .before .before .before .before .before .before .before .args .p .list in
-    let e : length p ≡ 8 = search needs in
-    then (single (c .before .before .before .before .before .before .before .put .ensures)) (omega arith)
-    (these 8 (length-map p (toBits binary64) ∙ e) (c .before .before .put-all .ensures))
+returns c = listed (toBits binary64) (c .before .before .before .before .before .before .before .before .args .t3 .list) 8 (search needs) (c .before .before .put-list .ensures)
 
 pub put-minima-spec : {M : Type 1} → statement M
-put-minima-spec = tie.close (tie.spec put-requires add-put-all slice-aggregate-put-all put-all-requires same-length returns)
+put-minima-spec = tie.close (tie.spec put-list-requires same-length returns)

@@ -1,7 +1,7 @@
 -- `strand_image::put_state` meets its contract: one run of words after another.
 use mathlib.Core.Path.{refl}
 use native.Mathlib.Omega.{arith}
-use Rattle.strand_image.proofs.Runs.{then, single, these}
+use Rattle.codec.proofs.Runs.{then, single, these}
 use Rattle.strand_image.specs.Strand.{state}
 use borrow.Author.Needs.{needs}
 use Rattle.strand_image.proofs.put_state.Statement.{statement}

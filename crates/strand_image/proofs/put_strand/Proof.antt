@@ -1,6 +1,6 @@
 -- `strand_image::put_strand` meets its contract: one run of words after another.
 use native.Mathlib.Omega.{arith}
-use Rattle.strand_image.proofs.Runs.{then}
+use Rattle.codec.proofs.Runs.{then}
 use Rattle.strand_image.specs.Strand.{strand}
 use borrow.Author.Needs.{needs}
 use Rattle.strand_image.proofs.put_strand.Statement.{statement}

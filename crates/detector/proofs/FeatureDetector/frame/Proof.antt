@@ -9,7 +9,7 @@ use borrow.Author.Needs.{needs}
 use lib.Seq.{take-all}
 use Rattle.sequence.specs.History.{laid}
 use Rattle.detector.proofs.Finished.{no-samples-length, samples-length, filled}
-use Rattle.detector.specs.declared.Bands.{Bands}
+use Rattle.detector.specs.declared.filters.Bands.{Bands}
 use Rattle.detector.specs.Filters.{samplesOf, begun, runOf, outputsOf}
 use Rattle.detector.specs.Detector.{finishOf}
 use Rattle.detector.specs.Detector.{frameOf}

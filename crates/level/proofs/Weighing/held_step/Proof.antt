@@ -1,7 +1,7 @@
 -- `Weighing::held_step` meets its contract.
 use mathlib.Core.Path.{sym}
 use borrow.Author.Needs.{needs}
-use Rattle.level.specs.Weighing.{heldStep}
+use Rattle.level.specs.Rest.{heldStep}
 use Rattle.level.proofs.Weighing.held_step.Statement.{statement}
 use Rattle.level.proofs.Weighing.held_step.Tie as tie
 
@@ -10,7 +10,7 @@ tick-requires c κs = search needs
 
 returns : tie.Need-returns
 unfolding heldStep
-returns c = simp (sym (c .before .before .before .before .tick .ensures))
+returns c = simp (sym (c .before .before .before .before .before .tick .ensures))
 
 pub held-step-spec : {M : Type 1} → statement M
 held-step-spec = tie.close (tie.spec tick-requires returns)

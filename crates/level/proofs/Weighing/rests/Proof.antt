@@ -18,7 +18,7 @@ holds-requires c κs = search needs
 returns : tie.Need-returns
 unfolding restsOf
 returns c =
-    let a = c .before .before .before .before .before .args in
+    let a = c .before .before .before .before .args in
     let s = c .before .before .all-same .ensures in
     let h = c .holds .ensures in (
       h .0 ∙ ap (λ (b : Bool). b && holdsOf (a .self .shelf) kShelf (a .x)) (sym (c .before .if1 .taken) ∙ s .0),
@@ -28,7 +28,7 @@ returns c =
 returns-2 : tie.Need-returns-2
 unfolding restsOf
 returns-2 c =
-    let a = c .before .before .before .before .args in
+    let a = c .before .before .before .args in
     (ap (λ (b : Bool). b && holdsOf (a .self .shelf) kShelf (a .x)) (sym (c .if1 .left) ∙ c .before .all-same .ensures .0), λ t. absurd t)
 
 pub rests-spec : {M : Type 1} → statement M

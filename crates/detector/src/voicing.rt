@@ -1,0 +1,287 @@
+// The voicing: the largest and the smallest normalised autocorrelation of the kept values for the lags of a pitch period.
+ghost use mathlib.Core.Path.{_≡_};
+ghost use Prim.Native.Nat.{ℕ, _+_, _≤_, _<_};
+ghost use lib.ListN.{length, drop, getD};
+ghost use lib.Ieee.{nan};
+ghost use Rattle.sequence.specs.History.{held};
+ghost use Rattle.detector.specs.Voicing.{
+  energyFrom,
+  productsFrom,
+  correlationOf,
+  energiesAt,
+  turnOf,
+  lagsOf,
+  unevenOf,
+  windowOf,
+  voicingOf,
+};
+ghost use Rattle.detector.specs.EightLags.{Correlations};
+use super::filters::Decimated;
+use super::filters::PITCH_WINDOW;
+
+// Pitch periods of 400 Hz and of 80 Hz, values at 6 kHz.
+const LAG_MIN: usize = 15;
+
+const LAG_MAX: usize = 75;
+
+// Energies and roots below this count as silence.
+const TINY: f64 = 1e-12;
+
+// The energies of the window without its last and without its first values, as many as the lag has; the largest and the smallest
+// autocorrelation so far; and whether every number that went to the root was finite.
+pub struct Ends {
+    pub head: f64,
+    pub tail: f64,
+    pub best: f64,
+    pub worst: f64,
+    pub finite: bool,
+}
+
+// The largest and the smallest normalised autocorrelation, and whether every number that went to the root was finite.
+pub struct Voicing {
+    pub voiced: f64,
+    pub anti: f64,
+    pub finite: bool,
+}
+
+// The sum, and to it the squares of the values.
+fn energy(from: f64, xs: &[f64]) -> f64
+    ensures { λ r. ⌜ r ≡ energyFrom from (now (xs .entry)) ⌝ }
+{
+    let mut sum = from;
+    let mut i = 0;
+    while i < xs.len() {
+        let v = xs[i];
+        sum = sum + v * v;
+        i += 1;
+    }
+    sum
+}
+
+// The sum, and to it x[i] * x[i + lag] for each i from `from` on.
+fn products(sum: f64, x: &[f64], from: usize, lag: usize) -> f64
+    requires { ⌜ from + lag ≤ length (now x) ⌝ }
+    ensures { λ r. ⌜ r ≡ productsFrom sum (drop from (now (x .entry))) (drop (from + lag) (now (x .entry))) ⌝ }
+{
+    let n = x.len() - lag;
+    let mut s = sum;
+    let mut i = from;
+    while i < n {
+        s = s + x[i] * x[i + lag];
+        i += 1;
+    }
+    s
+}
+
+// The correlations of eight lags.
+struct Eight {
+    s0: f64,
+    s1: f64,
+    s2: f64,
+    s3: f64,
+    s4: f64,
+    s5: f64,
+    s6: f64,
+    s7: f64,
+}
+
+// The correlations for lag to lag + 7 side by side, which the processor computes two by two; what they don't share follows by itself.
+fn eight_lags(x: &[f64], lag: usize) -> Eight
+    requires { ⌜ lag + 7 ≤ length (now x) ⌝ }
+    ensures { λ r. ⌜ Correlations (now (x .entry)) lag r ⌝ }
+{
+    let mut s0 = 0.0;
+    let mut s1 = 0.0;
+    let mut s2 = 0.0;
+    let mut s3 = 0.0;
+    let mut s4 = 0.0;
+    let mut s5 = 0.0;
+    let mut s6 = 0.0;
+    let mut s7 = 0.0;
+    let n = x.len() - lag - 7;
+    let mut i = 0;
+    while i < n {
+        let a = x[i];
+        let j = i + lag;
+        s0 = s0 + a * x[j];
+        s1 = s1 + a * x[j + 1];
+        s2 = s2 + a * x[j + 2];
+        s3 = s3 + a * x[j + 3];
+        s4 = s4 + a * x[j + 4];
+        s5 = s5 + a * x[j + 5];
+        s6 = s6 + a * x[j + 6];
+        s7 = s7 + a * x[j + 7];
+        i += 1;
+    }
+    s0 = products(s0, x, i, lag);
+    s1 = products(s1, x, i, lag + 1);
+    s2 = products(s2, x, i, lag + 2);
+    s3 = products(s3, x, i, lag + 3);
+    s4 = products(s4, x, i, lag + 4);
+    s5 = products(s5, x, i, lag + 5);
+    s6 = products(s6, x, i, lag + 6);
+    Eight {
+        s0,
+        s1,
+        s2,
+        s3,
+        s4,
+        s5,
+        s6,
+        s7,
+    }
+}
+
+fn no_sums() -> [f64; 64]
+    ensures { λ r. ⌜ length r ≡ 64 ⌝ }
+{
+    [0.0; 64]
+}
+
+// The correlations for the lags 15 to 78, of which 61 are used.
+fn correlations(x: &[f64]) -> [f64; 64]
+    requires { ⌜ length (now x) ≡ 240 ⌝ }
+    ensures { λ r. ⌜ ((k : ℕ) → k < 64 → getD r k nan ≡ correlationOf (now (x .entry)) (k + 15)) ⌝ }
+{
+    let mut t = no_sums();
+    let mut k = 0;
+    while k < 64 {
+        let g = eight_lags(x, k + LAG_MIN);
+        t[k] = g.s0;
+        t[k + 1] = g.s1;
+        t[k + 2] = g.s2;
+        t[k + 3] = g.s3;
+        t[k + 4] = g.s4;
+        t[k + 5] = g.s5;
+        t[k + 6] = g.s6;
+        t[k + 7] = g.s7;
+        k += 8;
+    }
+    t
+}
+
+impl Ends {
+    // The energies at a lag, from those at the lag before; at the first lag they are there.
+    fn at_lag(mut self, x: &[f64], lag: usize) -> Ends
+        requires { ⌜ (length (now x) ≡ 240) × (15 ≤ lag) × (lag < 76) ⌝ }
+        ensures { λ r. ⌜ r ≡ energiesAt (now (x .entry)) lag self ⌝ }
+    {
+        if LAG_MIN < lag {
+            let a = x[PITCH_WINDOW - lag];
+            let b = x[lag - 1];
+            self.head = self.head - a * a;
+            self.tail = self.tail - b * b;
+            return self;
+        }
+        self
+    }
+
+    // With a lag's correlation. A root below 1e-12 is passed over; the root of a negative number is none, and max and min pass over what comes of it.
+    fn turn(mut self, sum: f64) -> Ends
+        ensures { λ r. ⌜ r ≡ turnOf self sum ⌝ }
+    {
+        let p = self.head * self.tail;
+        self.finite = self.finite & float::finite(p);
+        let d = root::sqrt(p);
+        if d < TINY {
+            return self;
+        }
+        let r = sum / d;
+        self.best = float::max(self.best, r);
+        self.worst = float::min(self.worst, r);
+        self
+    }
+
+    // All lags.
+    fn lags(mut self, x: &[f64]) -> Ends
+        requires { ⌜ length (now x) ≡ 240 ⌝ }
+        ensures { λ r. ⌜ r ≡ lagsOf (now (x .entry)) 61 15 self ⌝ }
+    {
+        let sums = correlations(x);
+        let mut lag = LAG_MIN;
+        while lag <= LAG_MAX {
+            let e = self.at_lag(x, lag);
+            self = e.turn(sums[lag - LAG_MIN]);
+            lag += 1;
+        }
+        self
+    }
+}
+
+// The voicing of 240 values. The first half's energy is the beginning of the head's.
+fn window(x: &[f64]) -> Voicing
+    requires { ⌜ length (now x) ≡ 240 ⌝ }
+    ensures { λ r. ⌜ r ≡ windowOf (now (x .entry)) ⌝ }
+{
+    let first = energy(0.0, &x[..120]);
+    let second = energy(0.0, &x[120..]);
+    if uneven(first, second) {
+        return Voicing {
+            voiced: 0.0,
+            anti: 0.0,
+            finite: true,
+        };
+    }
+    let head = energy(first, &x[120..225]);
+    let tail = energy(0.0, &x[15..]);
+    let start = Ends {
+        head,
+        tail,
+        best: 0.0,
+        worst: 0.0,
+        finite: true,
+    };
+    let e = start.lags(x);
+    Voicing {
+        voiced: e.best,
+        anti: e.worst,
+        finite: e.finite,
+    }
+}
+
+// Whether the halves' energies aren't within 10 dB, or one of them is silent.
+fn uneven(first: f64, second: f64) -> bool
+    ensures { λ r. ⌜ r ≡ unevenOf first second ⌝ }
+{
+    let low = float::min(first, second);
+    let high = float::max(first, second);
+    (low < TINY) | (low < 0.1 * high)
+}
+
+fn no_window() -> [f64; PITCH_WINDOW]
+    ensures { λ r. ⌜ length r ≡ 240 ⌝ }
+{
+    [0.0; PITCH_WINDOW]
+}
+
+// The same values as f64.
+fn widened(d: [f32; PITCH_WINDOW]) -> [f64; PITCH_WINDOW]
+    ensures { λ r. ⌜ r ≡ d ⌝ }
+{
+    let mut v = no_window();
+    let mut i = 0;
+    while i < PITCH_WINDOW {
+        v[i] = std::num::f32_to_f64_with_nan(d[i]);
+        i += 1;
+    }
+    v
+}
+
+impl Decimated {
+    // The largest and the smallest normalised autocorrelation for pitch lags; both 0 while there are fewer than 240 values, and unless the
+    // window's halves are within 10 dB (an onset or an end in the window makes any sound look periodic).
+    pub fn voicing(self) -> Voicing
+        ensures { λ r. ⌜ r ≡ voicingOf (held (self .count) (self .list)) ⌝ }
+    {
+        if self.count < PITCH_WINDOW {
+            return Voicing {
+                voiced: 0.0,
+                anti: 0.0,
+                finite: true,
+            };
+        }
+        let list = self.list;
+        let x = widened(list);
+        window(&x)
+    }
+}
