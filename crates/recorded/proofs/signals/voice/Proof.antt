@@ -1,13 +1,13 @@
 -- `signals::voice` meets its contract.
-use Rattle.signals.proofs.Bounds.{product, share}
+use Rattle.recorded.proofs.Bounds.{product, share}
 use Prim.Native.Nat.{_*_, _/_, _%_, _≤_}
 use native.Mathlib.Nat.{mod-lt, mul-assoc}
 use mathlib.Core.Path.{sym}
 use native.Mathlib.Omega.{arith}
 use borrow.Author.Needs.{needs}
-use Rattle.signals.specs.Signals.{voiceOf}
-use Rattle.signals.proofs.voice.Statement.{statement}
-use Rattle.signals.proofs.voice.Tie as tie
+use Rattle.recorded.specs.Signals.{voiceOf}
+use Rattle.recorded.proofs.signals.voice.Statement.{statement}
+use Rattle.recorded.proofs.signals.voice.Tie as tie
 
 part : (c : tie.After-syllable) → c .before .args .n % c .before .args .seed ≤ 65536
 part c = omega (arith, mod-lt (c .before .args .n) (c .before .pre .0), c .before .pre .1)

@@ -3,9 +3,9 @@ use mathlib.Core.Path.{sym}
 use native.Mathlib.Omega.{arith}
 use borrow.Author.Needs.{needs}
 use borrow.Author.Tests.{eq-eqb, ne-eqb}
-use Rattle.signals.specs.Signals.{valueOf}
-use Rattle.signals.proofs.value.Statement.{statement}
-use Rattle.signals.proofs.value.Tie as tie
+use Rattle.recorded.specs.Signals.{valueOf}
+use Rattle.recorded.proofs.signals.value.Statement.{statement}
+use Rattle.recorded.proofs.signals.value.Tie as tie
 
 seeded-requires : tie.Need-seeded-requires
 seeded-requires c κs = search needs

@@ -1,8 +1,8 @@
-// Deterministic signals by whole-number arithmetic, for the programs that replay recorded answers: the same as compare/src/signals.rs makes.
+// Deterministic signals by whole-number arithmetic: the same as compare/src/signals.rs makes.
 // Sample n of a signal is (v - 32768) * scale, v = `value(signal, seed, n)` from 0 to 65536. The difference is exact, the product rounded once.
 ghost use mathlib.Core.Path.{_≡_};
 ghost use Prim.Native.Nat.{_≤_, _<_};
-ghost use Rattle.signals.specs.Signals.{scrambled, noiseOf, syllableOf, voiceOf, seedOf, sineOf, squareOf, impulseOf, burstOf, pulseOf, valueOf, sampleOf};
+ghost use Rattle.recorded.specs.Signals.{scrambled, noiseOf, syllableOf, voiceOf, seedOf, sineOf, squareOf, impulseOf, burstOf, pulseOf, valueOf, sampleOf};
 
 const MIDDLE: u64 = 32768;
 
@@ -109,7 +109,7 @@ fn syllable(n: u64) -> u64
     12000 - at
 }
 
-// The sawtooth in syllables, 17,768 to 47,768 (silence is 32,768).
+// The sawtooth in syllables, around 32,768, which is silence. Promised: 17,768 to 62,768.
 fn voice(seed: u64, n: u64) -> u64
     requires { ⌜ (0 < seed) × (seed < 65536) ⌝ }
     ensures { λ r. ⌜ (r ≡ voiceOf seed n) × (17768 ≤ r) × (r ≤ 62768) ⌝ }

@@ -2,9 +2,9 @@
 use mathlib.Core.Path.{sym}
 use native.Mathlib.Omega.{arith}
 use borrow.Author.Needs.{needs}
-use Rattle.signals.specs.Signals.{noiseOf}
-use Rattle.signals.proofs.noise.Statement.{statement}
-use Rattle.signals.proofs.noise.Tie as tie
+use Rattle.recorded.specs.Signals.{noiseOf}
+use Rattle.recorded.proofs.signals.noise.Statement.{statement}
+use Rattle.recorded.proofs.signals.noise.Tie as tie
 
 scramble-requires : tie.Need-scramble-requires
 scramble-requires c κs = search needs

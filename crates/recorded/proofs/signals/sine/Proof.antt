@@ -1,12 +1,12 @@
 -- `signals::sine` meets its contract.
-use Rattle.signals.proofs.Bounds.{product, sines-small}
+use Rattle.recorded.proofs.Bounds.{product, sines-small}
 use Prim.Native.Nat.{_*_, _%_}
 use mathlib.Core.Path.{refl}
 use native.Mathlib.Omega.{arith}
-use Rattle.signals.specs.Signals.{sines, sineOf}
+use Rattle.recorded.specs.Signals.{sines, sineOf}
 use borrow.Author.Needs.{needs}
-use Rattle.signals.proofs.sine.Statement.{statement}
-use Rattle.signals.proofs.sine.Tie as tie
+use Rattle.recorded.proofs.signals.sine.Statement.{statement}
+use Rattle.recorded.proofs.signals.sine.Tie as tie
 
 mul-result : tie.Need-mul-result
 mul-result c = omega (arith, product (c .args .n % 48) (c .args .seed) 48 65536 (omega arith) (omega (arith, c .pre)))

@@ -4,9 +4,9 @@ use native.Mathlib.Omega.{arith}
 use lib.Dec.{le→leb}
 use lib.Ieee.{inFloat}
 use borrow.Author.Needs.{needs}
-use Rattle.signals.specs.Signals.{sampleOf}
-use Rattle.signals.proofs.sample.Statement.{statement}
-use Rattle.signals.proofs.sample.Tie as tie
+use Rattle.recorded.specs.Signals.{sampleOf}
+use Rattle.recorded.proofs.signals.sample.Statement.{statement}
+use Rattle.recorded.proofs.signals.sample.Tie as tie
 
 value-requires : tie.Need-value-requires
 value-requires c κs = search needs

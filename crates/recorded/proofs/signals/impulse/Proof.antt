@@ -2,9 +2,9 @@
 use native.Mathlib.Omega.{arith}
 use borrow.Author.Needs.{needs}
 use borrow.Author.Tests.{eq-eqb, ne-eqb}
-use Rattle.signals.specs.Signals.{impulseOf}
-use Rattle.signals.proofs.impulse.Statement.{statement}
-use Rattle.signals.proofs.impulse.Tie as tie
+use Rattle.recorded.specs.Signals.{impulseOf}
+use Rattle.recorded.proofs.signals.impulse.Statement.{statement}
+use Rattle.recorded.proofs.signals.impulse.Tie as tie
 
 rem-if1 : tie.Need-rem-if1
 rem-if1 c = search needs

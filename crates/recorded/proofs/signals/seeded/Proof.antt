@@ -1,9 +1,9 @@
 -- `signals::seeded` meets its contract.
 use native.Mathlib.Omega.{arith}
 use borrow.Author.Tests.{eq-eqb, ne-eqb}
-use Rattle.signals.specs.Signals.{seedOf}
-use Rattle.signals.proofs.seeded.Statement.{statement}
-use Rattle.signals.proofs.seeded.Tie as tie
+use Rattle.recorded.specs.Signals.{seedOf}
+use Rattle.recorded.proofs.signals.seeded.Statement.{statement}
+use Rattle.recorded.proofs.signals.seeded.Tie as tie
 
 returns : tie.Need-returns
 unfolding seedOf

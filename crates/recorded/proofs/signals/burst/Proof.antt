@@ -3,9 +3,9 @@ use mathlib.Core.Path.{sym}
 use native.Mathlib.Omega.{arith}
 use borrow.Author.Needs.{needs}
 use borrow.Author.Tests.{lt-ltb, le-ltb}
-use Rattle.signals.specs.Signals.{burstOf}
-use Rattle.signals.proofs.burst.Statement.{statement}
-use Rattle.signals.proofs.burst.Tie as tie
+use Rattle.recorded.specs.Signals.{burstOf}
+use Rattle.recorded.proofs.signals.burst.Statement.{statement}
+use Rattle.recorded.proofs.signals.burst.Tie as tie
 
 noise-requires : tie.Need-noise-requires
 noise-requires c κs = search needs

@@ -8,7 +8,7 @@ use mathlib.Core.Path.{_≡_, ap, _∙_}
 use lib.Dec.{T, leb, leb→le}
 use lib.ListN.{getD}
 use lib.Ieee.Fits.{and-l, and-r}
-use Rattle.signals.specs.Signals.{sines}
+use Rattle.recorded.specs.Signals.{sines}
 
 pub product : (x y n k : ℕ) → x ≤ n → y ≤ k → x * y ≤ n * k
 product x y n k a b = mul-le-mul a b

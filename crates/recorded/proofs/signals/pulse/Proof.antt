@@ -1,14 +1,14 @@
 -- `signals::pulse` meets its contract.
-use Rattle.signals.proofs.Bounds.{share}
+use Rattle.recorded.proofs.Bounds.{share}
 use Prim.Native.Nat.{_%_}
 use native.Mathlib.Nat.{mod-lt}
 use mathlib.Core.Path.{sym}
 use native.Mathlib.Omega.{arith}
 use borrow.Author.Needs.{needs}
 use borrow.Author.Tests.{eq-eqb, ne-eqb}
-use Rattle.signals.specs.Signals.{pulseOf}
-use Rattle.signals.proofs.pulse.Statement.{statement}
-use Rattle.signals.proofs.pulse.Tie as tie
+use Rattle.recorded.specs.Signals.{pulseOf}
+use Rattle.recorded.proofs.signals.pulse.Statement.{statement}
+use Rattle.recorded.proofs.signals.pulse.Tie as tie
 
 add-result : tie.Need-add-result
 add-result c = search needs

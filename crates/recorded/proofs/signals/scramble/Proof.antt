@@ -1,12 +1,12 @@
 -- `signals::scramble` meets its contract.
-use Rattle.signals.proofs.Bounds.{product}
+use Rattle.recorded.proofs.Bounds.{product}
 use Prim.Native.Nat.{_+_, _*_, _%_}
 use mathlib.Core.Path.{refl}
 use native.Mathlib.Omega.{arith}
 use borrow.Author.Needs.{needs}
-use Rattle.signals.specs.Signals.{scrambled}
-use Rattle.signals.proofs.scramble.Statement.{statement}
-use Rattle.signals.proofs.scramble.Tie as tie
+use Rattle.recorded.specs.Signals.{scrambled}
+use Rattle.recorded.proofs.signals.scramble.Statement.{statement}
+use Rattle.recorded.proofs.signals.scramble.Tie as tie
 
 mul-y : tie.Need-mul-y
 mul-y c = search needs

@@ -2,9 +2,9 @@
 use native.Mathlib.Omega.{arith}
 use borrow.Author.Needs.{needs}
 use borrow.Author.Tests.{lt-ltb, le-ltb, le-leb, lt-leb}
-use Rattle.signals.specs.Signals.{syllableOf}
-use Rattle.signals.proofs.syllable.Statement.{statement}
-use Rattle.signals.proofs.syllable.Tie as tie
+use Rattle.recorded.specs.Signals.{syllableOf}
+use Rattle.recorded.proofs.signals.syllable.Statement.{statement}
+use Rattle.recorded.proofs.signals.syllable.Tie as tie
 
 returns : tie.Need-returns
 unfolding syllableOf

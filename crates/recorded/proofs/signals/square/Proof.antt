@@ -2,9 +2,9 @@
 use native.Mathlib.Omega.{arith}
 use borrow.Author.Needs.{needs}
 use borrow.Author.Tests.{lt-ltb, le-ltb}
-use Rattle.signals.specs.Signals.{squareOf}
-use Rattle.signals.proofs.square.Statement.{statement}
-use Rattle.signals.proofs.square.Tie as tie
+use Rattle.recorded.specs.Signals.{squareOf}
+use Rattle.recorded.proofs.signals.square.Statement.{statement}
+use Rattle.recorded.proofs.signals.square.Tie as tie
 
 rem-if1 : tie.Need-rem-if1
 rem-if1 c = search needs
