@@ -1,6 +1,6 @@
 -- Laws of lists of numbers: one laid over another, one made from a function, bounds of their numbers, and when two are the same.
 use mathlib.Core.Path.{_≡_, refl, sym, ap, _∙_, subst}
-use mathlib.Core.Bool.{Bool, true, false, _&&_}
+use mathlib.Core.Bool.{Bool, true, false, _&&_, false≢true}
 use mathlib.Core.List.{List, [], _∷_, _++_, map, append-nil}
 use Prim.Native.Nat.{ℕ, zero, suc, _+_, _≤_, _<_, min}
 use native.Mathlib.Nat.{add-suc, suc-add, add-zero, zero-add, le-of-suc-le-suc, not-suc-le-zero, le-of-lt, lt-of-not-le}
@@ -79,6 +79,10 @@ next {l} {l₁} {l₂} {xs} {ys} {i} {n} {j} p e f q = record {
 
 pub none-yet : (l : List ℕ) (i : ℕ) → Laid l i [] l
 none-yet l i = record { is = sym (laid-nil l i) }
+
+-- past the end nothing is stored
+pub dropped : (l : List ℕ) (i : ℕ) (xs : List ℕ) → length l ≤ i → Laid l i xs l
+dropped l i xs h = record { is = sym (laid-past l i xs h) }
 
 pub stored : {l : List ℕ} {i v u : ℕ} → v ≡ u → Laid l i (u ∷ []) (set l i v)
 stored {l} {i} {v} {u} e = record { is = ap (set l i) e ∙ sym (laid-one l i u) }
@@ -170,10 +174,7 @@ module _ (m : ℕ) where
 
 and-true : (a b : Bool) → (a && b) ≡ true → (a ≡ true) × (b ≡ true)
 and-true true b e = (refl, e)
-and-true false b e = absurd (unlike e)
-  where
-    unlike : false ≡ true → ⊥
-    unlike q = let z : _≡_ {A = ℕ} 0 1 = cc in omega arith
+and-true false b e = absurd (false≢true e)
 
 pub same-refl : (xs : List ℕ) → same xs xs ≡ true
 unfolding same
@@ -183,8 +184,8 @@ same-refl (x ∷ xs) = rw (eq-eqb x x refl, same-refl xs)
 pub same-eq : (xs ys : List ℕ) → same xs ys ≡ true → xs ≡ ys
 unfolding same
 same-eq [] [] e = refl
-same-eq [] (y ∷ ys) e = let z : _≡_ {A = ℕ} 0 1 = cc in absurd (omega arith)
-same-eq (x ∷ xs) [] e = let z : _≡_ {A = ℕ} 0 1 = cc in absurd (omega arith)
+same-eq [] (y ∷ ys) e = absurd (false≢true e)
+same-eq (x ∷ xs) [] e = absurd (false≢true e)
 same-eq (x ∷ xs) (y ∷ ys) e =
     let a = and-true (eqb x y) (same xs ys) e in
     λ i. eqb-true x y (a .0) i ∷ same-eq xs ys (a .1) i

@@ -1,10 +1,11 @@
 // Images of any number of blocks: their words, their bytes and the check of each block. What the words mean is said elsewhere.
 ghost use mathlib.Core.Path.{_≡_};
-ghost use Prim.Native.Nat.{_+_, _≤_, _<_};
-ghost use lib.ListN.{length, getD};
-ghost use Rattle.blocks.specs.Lists.{laid, Laid, same};
-ghost use Rattle.blocks.specs.Words.{rotated, mixed, word2, word4, word8, firstBad, bytes2, bytes4, bytes8, blocksIn};
+ghost use lib.ListN.{getD};
+ghost use Rattle.blocks.specs.Lists.{laid, same};
+ghost use Rattle.blocks.specs.Words.{rotated, mixed, firstBad, blocksIn};
 ghost use Rattle.blocks.specs.Image.{imageOf, payloadOf};
+
+pub mod little_endian;
 
 const BLOCK_BYTES: usize = 512;
 
@@ -26,59 +27,6 @@ fn mixed(c: u64, w: u64) -> u64
     std::num::wrapping_add_u64(rotated(c), w)
 }
 
-fn wide(x: u8) -> u64
-    ensures { λ r. ⌜ (r ≡ x) × (r < 256) ⌝ }
-{
-    x as u64
-}
-
-// The number that two, four and eight bytes stand for, the lowest first. Whoever reads a word shows that it is there.
-fn read2(b: &[u8], i: usize) -> u64
-    requires { ⌜ i + 2 ≤ length (now b) ⌝ }
-    ensures { λ r. ⌜ (r ≡ word2 (now (b .entry)) i) × (r < 65536) ⌝ }
-{
-    wide(b[i]) + wide(b[i + 1]) * 256
-}
-
-fn read4(b: &[u8], i: usize) -> u64
-    requires { ⌜ i + 4 ≤ length (now b) ⌝ }
-    ensures { λ r. ⌜ (r ≡ word4 (now (b .entry)) i) × (r < 4294967296) ⌝ }
-{
-    read2(b, i) + read2(b, i + 2) * 65536
-}
-
-fn read8(b: &[u8], i: usize) -> u64
-    requires { ⌜ i + 8 ≤ length (now b) ⌝ }
-    ensures { λ r. ⌜ r ≡ word8 (now (b .entry)) i ⌝ }
-{
-    read4(b, i) + read4(b, i + 4) * 4294967296
-}
-
-// A number as two, four and eight bytes, the lowest first. Whoever writes a word shows that there is room for it.
-fn write2(b: &mut [u8], i: usize, w: u64)
-    requires { ⌜ (i + 2 ≤ length (now b)) × (w < 65536) ⌝ }
-    ensures { λ _. ⌜ Laid (now (b .entry)) i (bytes2 w) (now (b .exit)) ⌝ }
-{
-    b[i] = (w % 256) as u8;
-    b[i + 1] = (w / 256) as u8;
-}
-
-fn write4(b: &mut [u8], i: usize, w: u64)
-    requires { ⌜ (i + 4 ≤ length (now b)) × (w < 4294967296) ⌝ }
-    ensures { λ _. ⌜ Laid (now (b .entry)) i (bytes4 w) (now (b .exit)) ⌝ }
-{
-    write2(b, i, w % 65536);
-    write2(b, i + 2, w / 65536);
-}
-
-fn write8(b: &mut [u8], i: usize, w: u64)
-    requires { ⌜ i + 8 ≤ length (now b) ⌝ }
-    ensures { λ _. ⌜ Laid (now (b .entry)) i (bytes8 w) (now (b .exit)) ⌝ }
-{
-    write4(b, i, w % 4294967296);
-    write4(b, i + 4, w / 4294967296);
-}
-
 // The first of the whole blocks of b whose check is wrong, or their number.
 pub fn first_bad(b: &[u8]) -> usize
     ensures { λ r. ⌜ r ≡ firstBad (now (b .entry)) ⌝ }
@@ -89,7 +37,7 @@ pub fn first_bad(b: &[u8]) -> usize
         let mut check = block as u64;
         let mut j: usize = 0;
         while j < BLOCK_WORDS {
-            let w = read8(b, 8 * (BLOCK_WORDS * block + j));
+            let w = little_endian::read8(b, 8 * (BLOCK_WORDS * block + j));
             if j < CHECKED_WORDS {
                 check = mixed(check, w);
             } else {
@@ -123,10 +71,10 @@ pub fn write_image(p: &[u64], b: &mut [u8])
         while j < CHECKED_WORDS {
             let w = word_or_zero(p, CHECKED_WORDS * block + j);
             check = mixed(check, w);
-            write8(b, 8 * (BLOCK_WORDS * block + j), w);
+            little_endian::write8(b, 8 * (BLOCK_WORDS * block + j), w);
             j += 1;
         }
-        write8(b, 8 * (BLOCK_WORDS * block + CHECKED_WORDS), check);
+        little_endian::write8(b, 8 * (BLOCK_WORDS * block + CHECKED_WORDS), check);
         block += 1;
     }
 }
@@ -138,7 +86,7 @@ pub fn payload(b: &[u8], w: &mut [u64])
     let n = sequence::least(w.len(), CHECKED_WORDS * (b.len() / BLOCK_BYTES));
     let mut k: usize = 0;
     while k < n {
-        w[k] = read8(
+        w[k] = little_endian::read8(
             b,
             8 * (BLOCK_WORDS * (k / CHECKED_WORDS) + k % CHECKED_WORDS),
         );

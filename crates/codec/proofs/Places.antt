@@ -6,16 +6,12 @@ use native.Mathlib.Omega.{arith}
 use lib.ListN.{length, getD, set, take, replicate, length-map, length-set, length-replicate, getD-replicate}
 use lib.Ieee.{Float, nan}
 use Rattle.blocks.specs.Lists.{Laid, table}
-use Rattle.blocks.proofs.Lists.{laid-past, next, stored, turn, finish, getD-map, length-table, getD-table}
+use Rattle.blocks.proofs.Lists.{next, stored, turn, finish, getD-map, length-table, getD-table}
 use Rattle.sequence.proofs.Fill.{fill-turn, fill-end}
 use Rattle.codec.specs.Fields.{capped}
 use Rattle.codec.specs.Codec.{Cell, valueAt}
 use Rattle.codec.specs.Forms.{counted}
 use Rattle.codec.proofs.Forms.{value-in}
-
--- past the end nothing is stored
-pub dropped : (l : List ℕ) (i : ℕ) (xs : List ℕ) → length l ≤ i → Laid l i xs l
-dropped l i xs h = record { is = sym (laid-past l i xs h) }
 
 pub as-word : {l l′ : List ℕ} {i v : ℕ} (u : ℕ) → Laid l i (v ∷ []) l′ → v ≡ u → Laid l i (u ∷ []) l′
 as-word {l} {l′} {i} u p e = subst (λ (z : ℕ). Laid l i (z ∷ []) l′) e p

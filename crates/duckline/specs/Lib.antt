@@ -1,3 +1,2 @@
-pub mod Line
-pub mod Frames
-pub mod Reads
+pub mod Arguments
+pub mod Input

@@ -1,23 +1,11 @@
 // Standard input through a buffer of 16 frames.
 ghost use mathlib.Core.Path.{_≡_};
-ghost use Prim.Native.Nat.{_+_, _*_, _≤_, _<_};
+ghost use Prim.Native.Nat.{_+_, _≤_};
 ghost use lib.ListN.{length, take};
-ghost use Rattle.blocks.specs.Words.{word2};
-ghost use Rattle.duckline.specs.Line.{strandBytes, frameBytes, bufferBytes, sampleAt, strandAt, keyAt, bedAt};
-ghost use Rattle.duckline.specs.Frames.{keptOf};
+ghost use Rattle.frame_bytes.specs.Bytes.{bufferBytes};
+ghost use Rattle.duckline.specs.Input.{broughtBy};
+use frame_bytes::BUFFER;
 use libc::STDIN_FILENO;
-
-// Samples of a strand.
-const SAMPLES: usize = 480;
-
-// Bytes of a strand.
-const STRAND: usize = 1920;
-
-// Bytes of a frame.
-pub const FRAME: usize = 3840;
-
-// Bytes of the buffer.
-pub const BUFFER: usize = 61440;
 
 pub fn buffer() -> [u8; BUFFER]
     ensures { λ r. ⌜ bufferBytes ≡ length r ⌝ }
@@ -25,88 +13,25 @@ pub fn buffer() -> [u8; BUFFER]
     [0; BUFFER]
 }
 
-fn wide(b: u8) -> u32
-    ensures { λ r. ⌜ (r ≡ b) × (r < 256) ⌝ }
-{
-    b as u32
+// What a read brings.
+pub enum Got {
+    Bytes(usize),
+    End,
+    Failed,
 }
 
-// The 16 bits at `at`, the low byte first. Of two halves the compiler reads a sample's four bytes at once.
-fn half(buffer: &[u8; BUFFER], at: usize) -> u32
-    requires { ⌜ at + 2 ≤ bufferBytes ⌝ }
-    ensures { λ r. ⌜ (r ≡ word2 (now (buffer .entry)) at) × (r < 65536) ⌝ }
-{
-    wide(buffer[at]) + wide(buffer[at + 1]) * 256
-}
-
-// The sample whose first byte is at `at`.
-fn sample(buffer: &[u8; BUFFER], at: usize) -> f32
-    requires { ⌜ at + 4 ≤ bufferBytes ⌝ }
-    ensures { λ r. ⌜ r ≡ sampleAt (now (buffer .entry)) at ⌝ }
-{
-    float::from_bits32(half(buffer, at) + half(buffer, at + 2) * 65536)
-}
-
-fn no_samples() -> [f32; SAMPLES]
-    ensures { λ r. ⌜ length r ≡ 480 ⌝ }
-{
-    [0.0; SAMPLES]
-}
-
-// The strand whose first byte is at `first`.
-fn strand(buffer: &[u8; BUFFER], first: usize) -> [f32; SAMPLES]
-    requires { ⌜ first + strandBytes ≤ bufferBytes ⌝ }
-    ensures { λ r. ⌜ r ≡ strandAt (now (buffer .entry)) first ⌝ }
-{
-    let mut x = no_samples();
-    let mut k: usize = 0;
-    while k < SAMPLES {
-        x[k] = sample(buffer, first + 4 * k);
-        k += 1;
-    }
-    x
-}
-
-// The key of frame i.
-pub fn key(buffer: &[u8; BUFFER], i: usize) -> [f32; SAMPLES]
-    requires { ⌜ i < 16 ⌝ }
-    ensures { λ r. ⌜ r ≡ keyAt (now (buffer .entry)) i ⌝ }
-{
-    strand(buffer, i * FRAME)
-}
-
-// The bed of frame i.
-pub fn bed(buffer: &[u8; BUFFER], i: usize) -> [f32; SAMPLES]
-    requires { ⌜ i < 16 ⌝ }
-    ensures { λ r. ⌜ r ≡ bedAt (now (buffer .entry)) i ⌝ }
-{
-    strand(buffer, i * FRAME + STRAND)
-}
-
-// One read behind the bytes that are held, which stay: how many came, 0 at the end of the input. A read that fails counts as the end, and is
-// told on standard error.
-pub fn read(buffer: &mut [u8], held: usize) -> usize
+// One read behind the bytes that are held, which stay.
+pub fn read(buffer: &mut [u8], held: usize) -> Got
     requires { ⌜ held ≤ length (now buffer) ⌝ }
-    ensures { λ r. ⌜ (held + r ≤ length (now (buffer .entry))) × (take held (now (buffer .exit)) ≡ take held (now (buffer .entry))) ⌝ }
+    ensures { λ r. ⌜ (held + broughtBy r ≤ length (now (buffer .entry))) × (take held (now (buffer .exit)) ≡ take held (now (buffer .entry))) ⌝ }
 {
     let got = libc::read(STDIN_FILENO, &mut buffer[held..]);
     if got < 0 {
-        os::fail(b"duckline");
+        return Got::Failed;
     }
-    io::count(got, &buffer[held..])
-}
-
-// Moves what is held behind `count` frames to the start: how many bytes these are.
-pub fn keep(buffer: &mut [u8], count: usize, held: usize) -> usize
-    requires { ⌜ (count * frameBytes ≤ held) × (held ≤ length (now buffer)) ⌝ }
-    ensures { λ r. ⌜ record { bytes = now (buffer .exit); held = r } ≡ keptOf (now (buffer .entry)) count held ⌝ }
-{
-    let first = count * FRAME;
-    let left = held - first;
-    let mut k: usize = 0;
-    while k < left {
-        buffer[k] = buffer[first + k];
-        k += 1;
+    let count = io::count(got, &buffer[held..]);
+    if count == 0 {
+        return Got::End;
     }
-    left
+    Got::Bytes(count)
 }

@@ -1,6 +1,6 @@
 // Reads a recorded file: 256 bytes of text, then words of 64 bits, little-endian, in lists.
-ghost use Prim.Native.Nat.{_<_};
 use super::print;
+use blocks::little_endian::read8;
 
 // Bytes that are read at a time.
 pub const BUFFER: usize = 4096;
@@ -24,25 +24,6 @@ pub struct Input {
 pub struct Got {
     pub word: u64,
     pub input: Input,
-}
-
-fn wide(b: u8) -> u64 {
-    b as u64
-}
-
-fn word_at(buffer: &[u8; BUFFER], at: usize) -> u64
-    requires { ⌜ at < 512 ⌝ }
-{
-    let b = at * 8;
-    let low = wide(buffer[b])
-        | wide(buffer[b + 1]) << 8
-        | wide(buffer[b + 2]) << 16
-        | wide(buffer[b + 3]) << 24;
-    let high = wide(buffer[b + 4])
-        | wide(buffer[b + 5]) << 8
-        | wide(buffer[b + 6]) << 16
-        | wide(buffer[b + 7]) << 24;
-    low | high << 32
 }
 
 // A file by its name, past its text.
@@ -81,7 +62,7 @@ impl Input {
             if at < BUFFER_WORDS {
                 input.at = at + 1;
                 return Got {
-                    word: word_at(buffer, at),
+                    word: read8(buffer, at * 8),
                     input,
                 };
             }

@@ -2,6 +2,7 @@
 ghost use Prim.Native.Nat.{_+_, _≤_, _<_};
 ghost use lib.ListN.{length};
 use super::input::IMAGE;
+use blocks::little_endian::write8;
 use chain::Answer;
 use chain::Outcome;
 use chain::Verdict;
@@ -13,23 +14,11 @@ const WORDS: usize = 42;
 // Their bytes.
 const BYTES: usize = 336;
 
-fn low(w: u64) -> u8 {
-    (w % 256) as u8
-}
-
 // The word at place k of an answer.
 fn put(out: &mut [u8; BYTES], k: usize, w: u64)
     requires { ⌜ k < 42 ⌝ }
 {
-    let at = 8 * k;
-    out[at] = low(w);
-    out[at + 1] = low(w >> 8);
-    out[at + 2] = low(w >> 16);
-    out[at + 3] = low(w >> 24);
-    out[at + 4] = low(w >> 32);
-    out[at + 5] = low(w >> 40);
-    out[at + 6] = low(w >> 48);
-    out[at + 7] = low(w >> 56);
+    write8(out, 8 * k, w);
 }
 
 // Words from place `first` on.

@@ -1,7 +1,11 @@
 // The calls of standard input. Nothing is read ahead of a call's end, so that its answer can be written before the next one is there.
 ghost use mathlib.Core.Path.{_≡_};
-ghost use Prim.Native.Nat.{_^_, _≤_, _<_, min};
+ghost use Prim.Native.Nat.{_*_, _^_, _≤_, _<_, min};
 ghost use lib.ListN.{length};
+ghost use lib.Ieee.{binary32, ofBits};
+ghost use Rattle.blocks.specs.Words.{word4};
+use blocks::little_endian::read4;
+use blocks::little_endian::read8;
 use libc::STDIN_FILENO;
 
 // Samples that are kept of a strand: a frame's, and one more.
@@ -29,14 +33,6 @@ pub enum Word {
     End,
 }
 
-fn wide(b: u8) -> u64 {
-    b as u64
-}
-
-fn wide32(b: u8) -> u32 {
-    b as u32
-}
-
 // Fills a slice, and answers whether the input had that much.
 fn fill(b: &mut [u8]) -> bool {
     io::read_full(STDIN_FILENO, b) == b.len()
@@ -62,21 +58,18 @@ pub fn next_letter() -> Letter {
 pub fn next_count() -> Word {
     let mut b = [0u8; 4];
     if fill(&mut b) {
-        return Word::Found(wide(b[0]) | wide(b[1]) << 8 | wide(b[2]) << 16 | wide(b[3]) << 24);
+        return Word::Found(read4(&b, 0) as u64);
     }
     Word::End
 }
 
+// The next number of 64 bits.
 pub fn next_word() -> Word {
-    let first = next_count();
-    let Word::Found(low) = first else {
-        return Word::End;
-    };
-    let second = next_count();
-    let Word::Found(high) = second else {
-        return Word::End;
-    };
-    Word::Found(low | high << 32)
+    let mut b = [0u8; 8];
+    if fill(&mut b) {
+        return Word::Found(read8(&b, 0));
+    }
+    Word::End
 }
 
 // The next 12 words, and whether the input had them.
@@ -93,13 +86,12 @@ pub fn next_words(to: &mut [u64; 12]) -> bool {
     true
 }
 
+// Sample k.
 fn sample(b: &[u8; BYTES], k: usize) -> f32
     requires { ⌜ k < 481 ⌝ }
+    ensures { λ r. ⌜ r ≡ ofBits binary32 (word4 (now (b .entry)) (4 * k)) ⌝ }
 {
-    let at = 4 * k;
-    float::from_bits32(
-        wide32(b[at]) | wide32(b[at + 1]) << 8 | wide32(b[at + 2]) << 16 | wide32(b[at + 3]) << 24,
-    )
+    float::from_bits32(read4(b, 4 * k))
 }
 
 fn samples(b: &[u8; BYTES], to: &mut [f32; STRAND]) {

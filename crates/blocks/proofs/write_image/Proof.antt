@@ -48,7 +48,7 @@ mul-write8-2 : tie.Need-mul-write8-2 Inv-loop2 μ-loop2 Inv-loop μ-loop
 mul-write8-2 c = search needs
 
 write8-requires : tie.Need-write8-requires Inv-loop2 μ-loop2 Inv-loop μ-loop
-write8-requires c κs = omega (arith, c .before .before .before .before .loop2 .inv .size, laid-length (c .before .before .before .before .before .before .loop .inv .1 .over))
+write8-requires c κs = search needs
 
 add-j : tie.Need-add-j Inv-loop2 μ-loop2 Inv-loop μ-loop
 add-j c = search needs
@@ -72,7 +72,7 @@ mul-write8-4 : tie.Need-mul-write8-4 Inv-loop2 μ-loop2 Inv-loop μ-loop
 mul-write8-4 c = search needs
 
 write8-requires-2 : tie.Need-write8-requires-2 Inv-loop2 μ-loop2 Inv-loop μ-loop
-write8-requires-2 c κs = omega (arith, c .before .before .loop2 .inv .size, laid-length (c .before .before .before .before .loop .inv .1 .over))
+write8-requires-2 c κs = search needs
 
 add-block : tie.Need-add-block Inv-loop2 μ-loop2 Inv-loop μ-loop
 add-block c = search needs

@@ -1,7 +1,6 @@
 -- `codec::put` meets its contract.
 use mathlib.Core.Path.{refl}
-use Rattle.blocks.proofs.Lists.{stored}
-use Rattle.codec.proofs.Places.{dropped}
+use Rattle.blocks.proofs.Lists.{dropped, stored}
 use borrow.Author.Needs.{needs}
 use Rattle.codec.proofs.put.Statement.{statement}
 use Rattle.codec.proofs.put.Tie as tie

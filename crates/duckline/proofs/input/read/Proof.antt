@@ -18,11 +18,13 @@ part-read-end c = search needs
 read-requires : tie.Need-read-requires
 read-requires c κs = search needs
 
-slice-aggregate-fail : tie.Need-slice-aggregate-fail
-slice-aggregate-fail c = search needs
+same-length : tie.Need-same-length
+same-length c = search needs
 
-fail-requires : tie.Need-fail-requires
-fail-requires c κs = search needs
+returns : tie.Need-returns
+returns c =
+    let a = c .before .before .before .before .before .before .args in
+    (search needs, take-put (a .held) (length (a .buffer .now) - a .held) (a .buffer .now) (c .before .before .before .read .last .1 .0) (c .before .before .before .before .before .before .pre))
 
 sub-count : tie.Need-sub-count
 sub-count c = search needs
@@ -36,13 +38,21 @@ part-count-end c = search needs
 count-requires : tie.Need-count-requires
 count-requires c κs = search needs
 
-same-length : tie.Need-same-length
-same-length c = search needs
+same-length-2 : tie.Need-same-length-2
+same-length-2 c = search needs
 
-returns : tie.Need-returns
-returns c =
-    let a = c .before .before .before .before .before .before .before .before .before .args in
-    (search needs, take-put (a .held) (length (a .buffer .now) - a .held) (a .buffer .now) (c .before .before .before .before .before .before .read .last .1 .0) (c .before .before .before .before .before .before .before .before .before .pre))
+returns-2 : tie.Need-returns-2
+returns-2 c =
+    let a = c .before .before .before .before .before .before .before .before .before .before .args in
+    (search needs, take-put (a .held) (length (a .buffer .now) - a .held) (a .buffer .now) (c .before .before .before .before .before .before .before .read .last .1 .0) (c .before .before .before .before .before .before .before .before .before .before .pre))
+
+same-length-3 : tie.Need-same-length-3
+same-length-3 c = search needs
+
+returns-3 : tie.Need-returns-3
+returns-3 c =
+    let a = c .before .before .before .before .before .before .before .before .before .before .args in
+    (search needs, take-put (a .held) (length (a .buffer .now) - a .held) (a .buffer .now) (c .before .before .before .before .before .before .before .read .last .1 .0) (c .before .before .before .before .before .before .before .before .before .before .pre))
 
 pub read-spec : {M : Type 1} → statement M
 read-spec =
@@ -52,11 +62,13 @@ read-spec =
     part-read-start
     part-read-end
     read-requires
-    slice-aggregate-fail
-    fail-requires
+    same-length
+    returns
     sub-count
     part-count-start
     part-count-end
     count-requires
-    same-length
-    returns)
+    same-length-2
+    returns-2
+    same-length-3
+    returns-3)
