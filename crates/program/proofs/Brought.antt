@@ -1,7 +1,7 @@
 -- What a read brings lies in the buffer.
 use mathlib.Core.Path.{_≡_, ap, subst}
 use mathlib.Core.Bool.{Bool, true, false, cond}
-use Prim.Native.Nat.{ℕ, _+_, _≤_}
+use Prim.Native.Nat.{ℕ, _≤_}
 use native.Mathlib.Omega.{arith}
 use lib.Dec.{eqb}
 use Rattle.program.specs.declared.input.Got.{Got}
@@ -18,5 +18,5 @@ at-most g failed n e = omega (arith, ap broughtBy e, go failed (eqb n 0))
     go false true = omega arith
     go false false = omega arith
 
-pub brought : (g : Got) (n held most : ℕ) → g ≡ Bytes n → held + broughtBy g ≤ most → held + n ≤ most
-brought g n held most e h = subst (λ (x : Got). held + broughtBy x ≤ most) e h
+pub brought : (g : Got) (n room : ℕ) → g ≡ Bytes n → broughtBy g ≤ room → n ≤ room
+brought g n room e h = subst (λ (x : Got). broughtBy x ≤ room) e h

@@ -1,6 +1,6 @@
 // Reads of standard input.
 ghost use mathlib.Core.Path.{_≡_};
-ghost use Prim.Native.Nat.{_+_, _≤_};
+ghost use Prim.Native.Nat.{_-_, _≤_};
 ghost use lib.ListN.{length, take};
 ghost use Rattle.program.specs.Input.{broughtBy, gotOf};
 use libc::STDERR_FILENO;
@@ -26,11 +26,13 @@ fn meant(failed: bool, count: usize) -> Got
     Got::Bytes(count)
 }
 
-// One read behind the bytes that are held, which stay. The caller shows that the buffer has so many.
+// One read behind the bytes that are held, which stay. Without room behind them it is as at the end of the input.
 pub fn read(buffer: &mut [u8], held: usize) -> Got
-    requires { ⌜ held ≤ length (now buffer) ⌝ }
-    ensures { λ r. ⌜ (held + broughtBy r ≤ length (now (buffer .entry))) × (take held (now (buffer .exit)) ≡ take held (now (buffer .entry))) ⌝ }
+    ensures { λ r. ⌜ (broughtBy r ≤ length (now (buffer .entry)) - held) × (take held (now (buffer .exit)) ≡ take held (now (buffer .entry))) ⌝ }
 {
+    if buffer.len() <= held {
+        return Got::End;
+    }
     let answer = libc::read(STDIN_FILENO, &mut buffer[held..]);
     let count = io::count(answer, &buffer[held..]);
     meant(answer < 0, count)

@@ -1,12 +1,16 @@
 -- `input::read` meets its contract: what was read lies behind the bytes that are held, which are not lent.
 use Prim.Native.Nat.{_-_}
 use native.Mathlib.Omega.{arith}
+use mathlib.Core.Path.{refl}
 use lib.ListN.{length}
 use borrow.Rule.Slice.PartMut.{take-put}
 use borrow.Author.Needs.{needs}
 use Rattle.program.proofs.Brought.{at-most}
 use Rattle.program.proofs.input.read.Statement.{statement}
 use Rattle.program.proofs.input.read.Tie as tie
+
+returns : tie.Need-returns
+returns c = (omega arith, refl)
 
 sub-read : tie.Need-sub-read
 sub-read c = search needs
@@ -38,17 +42,18 @@ meant-requires c κs = search needs
 same-length : tie.Need-same-length
 same-length c = search needs
 
-returns : tie.Need-returns
-returns c =
-    let a = c .before .before .before .before .before .before .before .before .before .args in (
+returns-2 : tie.Need-returns-2
+returns-2 c =
+    let a = c .before .before .before .before .before .before .before .before .before .before .args in (
       omega (arith, at-most _ _ _ (c .meant .ensures)),
-      take-put (a .held) (length (a .buffer .now) - a .held) (a .buffer .now) (c .before .before .before .before .before .before .read .last .1 .0) (c .before .before .before .before .before .before .before .before .before .pre),
+      take-put (a .held) (length (a .buffer .now) - a .held) (a .buffer .now) (c .before .before .before .before .before .before .read .last .1 .0) (omega arith),
     )
 
 pub read-spec : {M : Type 1} → statement M
 read-spec =
     tie.close
     (tie.spec
+    returns
     sub-read
     part-read-start
     part-read-end
@@ -59,4 +64,4 @@ read-spec =
     count-requires
     meant-requires
     same-length
-    returns)
+    returns-2)
