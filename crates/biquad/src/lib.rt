@@ -41,7 +41,7 @@ pub const K_HIGH_PASS: Coefficients = Coefficients {
     a2: 0.99007225036621,
 };
 
-// The detector's speech band: Butterworth, 250 Hz to 4 kHz.
+// The detector's speech band: a high-pass of 250 Hz and a low-pass of 4 kHz, each Butterworth of order 2.
 pub const BAND_HIGH_PASS: Coefficients = Coefficients {
     b0: 0.977125627265454,
     b1: -1.954251254530908,
@@ -58,7 +58,7 @@ pub const BAND_LOW_PASS: Coefficients = Coefficients {
     a2: 0.47759225007251715,
 };
 
-// The detector's pitch filter: Butterworth of order 4, 1 kHz, in two sections.
+// The detector's pitch filter: a low-pass of 1 kHz, Butterworth of order 4, in two sections.
 pub const PITCH_1: Coefficients = Coefficients {
     b0: 0.0038172458174315356,
     b1: 0.007634491634863071,
@@ -75,7 +75,8 @@ pub const PITCH_2: Coefficients = Coefficients {
     a2: 0.9048522287685673,
 };
 
-// The coefficients of a strand's six sections, in the image's order: shelf, high-pass, band pair, pitch pair.
+// The coefficients of a strand's six sections, in the image's order: the shelf and the high-pass of K-weighting, the speech band's two, the pitch
+// filter's two.
 pub fn sections() -> [Coefficients; 6]
     ensures { λ r. ⌜ r ≡ sectionsOf ⌝ }
 {

@@ -8,8 +8,10 @@ ghost use Rattle.chain.specs.StrandFrames.{Whole, finishedOf, strandFram
 ghost use Rattle.chain.specs.Chain.{freshOf, inputsOf, workOf, refusedOf, passedOf, judgedOf, frameOf, setOf, resetOf};
 use comis::loop_bank::Loops;
 use float::Db;
+use level::FRAME;
 use paired_filters::Banded;
 use paired_filters::BandedPairs;
+use paired_filters::Side;
 use paired_filters::Weighed;
 use paired_filters::WeighedPairs;
 use ratio::Inputs;
@@ -19,8 +21,6 @@ use settings::Settings;
 use vad::Strand;
 use vad::VadSettings;
 use vad::VadState;
-
-const FRAME: usize = 480; // samples of a strand, 10 ms at 48 kHz
 
 pub struct Chain {
     pub settings: Settings,
@@ -72,32 +72,26 @@ pub struct Worked {
     pub duck: ratio::Framed,
 }
 
-fn no_outputs() -> [f64; 480]
+fn no_outputs() -> [f64; FRAME]
     ensures { λ r. ⌜ length r ≡ frameLength ⌝ }
 {
-    [0.0; 480]
+    [0.0; FRAME]
 }
 
-// What follows the filters of one strand, of the bed or of the key.
+// What follows the filters of one strand: both strands' filters, which of them it is, and the outputs of its pitch filter.
 fn finished(
     t: Strand,
     weighed: WeighedPairs,
     banded: BandedPairs,
-    bed: bool,
-    ys: &[f64; 480],
+    side: Side,
+    pitch: &[f64; FRAME],
     settings: VadSettings,
 ) -> vad::Framed
-    ensures { λ r. ⌜ r ≡ finishedOf t (weighingAt weighed bed) (bandsAt banded bed) (now (ys .entry)) settings ⌝ }
+    ensures { λ r. ⌜ r ≡ finishedOf t (weighingAt weighed side) (bandsAt banded side) (now (pitch .entry)) settings ⌝ }
 {
-    let w = weighed.strand(bed);
-    let b = banded.strand(bed);
-    let level = t.level;
-    let powers = level.powers;
-    let detector = t.detector;
-    let decision = t.decision;
-    let l = level::finish(w, powers, FRAME);
-    let h = detector.finish(b, ys);
-    vad::finish(decision, l, h, settings)
+    let l = level::finish(weighed.strand(side), t.level.powers, FRAME);
+    let h = t.detector.finish(banded.strand(side), pitch);
+    vad::finish(t.decision, l, h, settings)
 }
 
 // What the ducker reads of the two strands after a frame.
@@ -142,36 +136,33 @@ impl Chain {
     }
 
     // Key strand and bed strand, over the samples as f64.
-    fn strand_frames(self, xs: &[f64; 480], ys: &[f64; 480]) -> StrandFrames
+    fn strand_frames(self, xs: &[f64; FRAME], ys: &[f64; FRAME]) -> StrandFrames
         ensures { λ r. ⌜ r ≡ strandFramesOf self (now (xs .entry)) (now (ys .entry)) ⌝ }
     {
-        let settings = self.settings;
-        let key_settings = settings.key;
-        let bed_settings = settings.bed;
-        let key = self.key;
-        let bed = self.bed;
-        let key_level = key.level;
-        let bed_level = bed.level;
-        let key_detector = key.detector;
-        let bed_detector = bed.detector;
-        let key_filters = key_detector.filters;
-        let bed_filters = bed_detector.filters;
         let weighed = Weighed {
-            key: key_level.start(),
-            bed: bed_level.start(),
+            key: self.key.level.start(),
+            bed: self.bed.level.start(),
         };
         let banded = Banded {
-            key: key_filters.begin(),
-            bed: bed_filters.begin(),
+            key: self.key.detector.filters.begin(),
+            bed: self.bed.detector.filters.begin(),
         };
-        let mut out = no_outputs();
-        let mut also = no_outputs();
-        let t = paired_filters::filter_frame(weighed, banded, xs, ys, &mut out, &mut also);
-        let w = t.weighed;
-        let f = t.banded;
-        let k = finished(key, w, f, false, &out, key_settings);
-        let b = finished(bed, w, f, true, &also, bed_settings);
-        StrandFrames { key: k, bed: b }
+        let mut key_pitch = no_outputs();
+        let mut bed_pitch = no_outputs();
+        let f = paired_filters::filter_frame(
+            weighed,
+            banded,
+            xs,
+            ys,
+            &mut key_pitch,
+            &mut bed_pitch,
+        );
+        let w = f.weighed;
+        let b = f.banded;
+        StrandFrames {
+            key: finished(self.key, w, b, Side::Key, &key_pitch, self.settings.key),
+            bed: finished(self.bed, w, b, Side::Bed, &bed_pitch, self.settings.bed),
+        }
     }
 
     // Key strand, bed strand, then the ducker. `frame` has tested both slices.

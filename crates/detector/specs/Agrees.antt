@@ -1,5 +1,5 @@
--- What it is for the port's record to stand for the Rust's detector: the latest 240 of its 300 decimated values, the phase 0, and no number for
--- the minimum of an empty window.
+-- What it is for the port's record to stand for the Rust's detector: the port has the latest 240 of the Rust's decimated values, of which there are
+-- at most 300; the Rust's phase is 0; and its minimum of an empty window is infinite, where the port's isn't looked at.
 use Prim.Native.Nat.{_≤_}
 use mathlib.Core.Bool.{false, cond}
 use mathlib.Core.Path.{_≡_}

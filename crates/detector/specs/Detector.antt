@@ -1,4 +1,5 @@
--- One frame of the detector: the Rust's `FeatureDetector::frame` on the port's record.
+-- One frame of the detector, on the port's record: for 480 samples the Rust's `FeatureDetector::frame`. Missing samples count as 0, and further
+-- ones aren't heard; the Rust takes any number of them.
 use mathlib.Core.Bool.{Bool, cond, _&&_}
 use mathlib.Core.List.{List, [], _∷_}
 use lib.Ieee.{Float, binary64, lt, ofBits}
@@ -36,7 +37,7 @@ freshOf = record {
 
 -- ---- the probability
 
--- -0.93
+-- -0.93, the most negative autocorrelation of what is no pure tone
 abbrev pub toneLimit : Float
 toneLimit = ofBits binary64 0xbfedc28f5c28f5c3
 
@@ -78,15 +79,15 @@ abbrev pub numbersOf : FramePowers → Floored → Modulated → List Float
 numbersOf p f m = f .smoothed ∷ f .least ∷ p .e ∷ maxOf zero64 (p .full) ∷ maxOf zero64 (p .band) ∷ m .variance ∷ []
 
 -- all of it, with what went to the narrowing, what is kept of it, and what the lags handed to the root
-abbrev pub soundOf : Filters → FramePowers → List Float → Floored → Modulated → Voicing → Bool
-soundOf g p ys f m v =
+abbrev pub numbersFinite : Filters → FramePowers → List Float → Floored → Modulated → Voicing → Bool
+numbersFinite g p ys f m v =
     (allFinite (statesOf g) && allFinite (numbersOf p f m)) && ((allFinite (handedOf ys) && allFinite (keptOf ys)) && v .finite)
 
 abbrev pub heardOf : Filters → FramePowers → List Float → Decimated → Floored → Modulated → Voicing → Heard
 heardOf g p ys k f m v = record {
   detector = record { filters = g; decimated = k; floor = f .next; history = m .next };
   frame = shownOf p f m v;
-  finite = soundOf g p ys f m v;
+  finite = numbersFinite g p ys f m v;
 }
 
 -- what follows the filters: s as they left it, and the pitch outputs ys

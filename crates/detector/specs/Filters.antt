@@ -41,7 +41,7 @@ statesOf f =
     ∷ f .pitch2 .z2
     ∷ []
 
--- after the outputs b of the band pair and q of the pitch pair for the sample v
+-- after the outputs b of the speech band and q of the pitch filter for the sample v
 abbrev pub passed : Bands → Float → Ticked → Ticked → Ticked → Ticked → Bands
 passed s v a b p q = record {
   filters = record { «high_pass» = a .state; «low_pass» = b .state; pitch1 = p .state; pitch2 = q .state };
@@ -61,7 +61,7 @@ stepOf s v =
 unfoldable pub runOf : Bands → List Float → Bands
 runOf s xs = foldl stepOf s xs
 
--- the pitch pair's output for each sample
+-- the pitch filter's output for each sample
 unfoldable pub outputsOf : Bands → List Float → List Float
 outputsOf s [] = []
 outputsOf s (x ∷ xs) = stepOf s x .pitch ∷ outputsOf (stepOf s x) xs
@@ -86,6 +86,6 @@ handedOf ys = eighths 60 ys
 unfoldable pub keptOf : List Float → List Float
 keptOf ys = map narrowOf (handedOf ys)
 
--- the latest 240
+-- with the values of a frame: the latest 240
 unfoldable pub keepOf : Decimated → List Float → Decimated
 keepOf d ys = record { count = countAfter 240 (d .count) (length ys); list = placesAfter (d .count) (d .list) ys }

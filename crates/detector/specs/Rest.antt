@@ -22,7 +22,7 @@ unfoldable pub sameBands : Bands → Bands → Bool
 sameBands s t =
     sameFilters (s .filters) (t .filters) && sameOf (s .full) (t .full) && sameOf (s .band) (t .band) && sameOf (s .pitch) (t .pitch)
 
--- a sample v leaves all as it is
+-- a sample v surely leaves all as it is
 unfoldable pub stillOf : Bands → Float → Bool
 stillOf s v = sameBands (stepOf s v) s
 

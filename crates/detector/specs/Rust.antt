@@ -25,7 +25,7 @@ use Rattle.detector.specs.Modulation.{varianceOf}
 use Rattle.detector.specs.Voicing.{voicingOf}
 use Rattle.detector.specs.Detector.{withFeatures}
 
--- the port has the minima of windows apart from the band powers of a window, and so has this: `floor` changes these alone
+-- the four fields that `floor` changes, a record of their own as in the port
 pub record RustFloor : Type 0 where
   pub smoothed : Smoothed
   pub windowMin : Float

@@ -12,7 +12,7 @@ smooth t = t ⊗ t ⊗ (three64 ⊖ two64 ⊗ t)
 unfoldable pub smoothstepOf : Float → Float → Float → Float
 smoothstepOf x lo hi = smooth (clampOf ((x ⊖ lo) ⊘ (hi ⊖ lo)) zero64 one64)
 
--- below this a power counts as this, dB
+-- -120 dB: a power below this counts as this
 abbrev pub silenceDb : Float
 silenceDb = ofBits binary64 0xc05e000000000000
 

@@ -30,13 +30,16 @@ use level::FRAME;
 // Of how many outputs of the pitch filter one is kept: 48 kHz become 6 kHz.
 const DECIMATE: usize = 8;
 
-// The values kept of a frame.
+// The last of eight outputs, which is the one kept.
+const LAST: usize = DECIMATE - 1;
+
+// The values that a frame keeps: 60.
 pub const KEPT: usize = FRAME / DECIMATE;
 
 // The values that the voicing is computed from: 40 ms at 6 kHz.
 pub const PITCH_WINDOW: usize = 240;
 
-// The states of the four sections: the band pair and the pitch pair.
+// The states of the four sections: two of the speech band, two of the pitch filter.
 pub struct Filters {
     pub high_pass: State,
     pub low_pass: State,
@@ -44,7 +47,8 @@ pub struct Filters {
     pub pitch2: State,
 }
 
-// What runs from sample to sample: the sections, the energy of the frame so far, that of its band, and the latest output of the pitch pair.
+// What runs from sample to sample: the sections, the energy of the frame so far, that of its speech band, and the latest output of the pitch
+// filter.
 pub struct Bands {
     pub filters: Filters,
     pub full: f64,
@@ -89,22 +93,14 @@ impl Filters {
         float::all_finite(&numbers)
     }
 
-    // Whether both are surely the same.
+    // Whether both are surely the same: every number has the same bits and is no NaN.
     fn same(self, other: Filters) -> bool
         ensures { λ r. ⌜ (r ≡ sameFilters self other) × (T r → self ≡ other) ⌝ }
     {
-        let a = self.high_pass;
-        let b = self.low_pass;
-        let p = self.pitch1;
-        let q = self.pitch2;
-        let c = other.high_pass;
-        let d = other.low_pass;
-        let r = other.pitch1;
-        let s = other.pitch2;
-        level::same_state(a, c)
-            & level::same_state(b, d)
-            & level::same_state(p, r)
-            & level::same_state(q, s)
+        level::same_state(self.high_pass, other.high_pass)
+            & level::same_state(self.low_pass, other.low_pass)
+            & level::same_state(self.pitch1, other.pitch1)
+            & level::same_state(self.pitch2, other.pitch2)
     }
 }
 
@@ -114,14 +110,10 @@ impl Bands {
         ensures { λ r. ⌜ r ≡ stepOf self v ⌝ }
     {
         let f = self.filters;
-        let s0 = f.high_pass;
-        let s1 = f.low_pass;
-        let s2 = f.pitch1;
-        let s3 = f.pitch2;
-        let a = s0.tick(biquad::BAND_HIGH_PASS, v);
-        let b = s1.tick(biquad::BAND_LOW_PASS, a.y);
-        let p = s2.tick(biquad::PITCH_1, b.y);
-        let q = s3.tick(biquad::PITCH_2, p.y);
+        let a = f.high_pass.tick(biquad::BAND_HIGH_PASS, v);
+        let b = f.low_pass.tick(biquad::BAND_LOW_PASS, a.y);
+        let p = f.pitch1.tick(biquad::PITCH_1, b.y);
+        let q = f.pitch2.tick(biquad::PITCH_2, p.y);
         let high_pass = a.state;
         let low_pass = b.state;
         let pitch1 = p.state;
@@ -139,31 +131,28 @@ impl Bands {
         }
     }
 
-    // Whether a sample v leaves all as it is.
+    // Whether a sample v surely leaves all as it is; never where a number is NaN after it.
     fn still(self, v: f64) -> bool
         ensures { λ r. ⌜ (r ≡ stillOf self v) × (T r → stepOf self v ≡ self) ⌝ }
     {
         let n = self.step(v);
-        let f = n.filters;
-        let g = self.filters;
-        f.same(g)
+        n.filters.same(self.filters)
             & float::same(n.full, self.full)
             & float::same(n.band, self.band)
             & float::same(n.pitch, self.pitch)
     }
 
-    // Whether all samples are v and change nothing after the first.
+    // Whether all samples are surely v and change nothing after the first.
     pub fn quiet(self, v: f64, xs: &[f64]) -> bool
         ensures { λ r. ⌜ (r ≡ quietOf self v (now (xs .entry))) × (T r → Quiet self v (now (xs .entry))) ⌝ }
     {
         if float::all_same(v, xs) {
-            let first = self.step(v);
-            return first.still(v);
+            return self.step(v).still(v);
         }
         false
     }
 
-    // The samples of a frame, and the pitch pair's output for each in out. In silence the first step is all there is to do.
+    // The samples of a frame, and the pitch filter's output for each in `out`. Where nothing changes after the first sample, its step is all.
     pub fn alone(self, xs: &[f64; FRAME], out: &mut [f64; FRAME]) -> Bands
         ensures { λ r. ⌜ (r ≡ runOf self (now (xs .entry))) × (now (out .exit) ≡ outputsOf self (now (xs .entry))) ⌝ }
     {
@@ -176,7 +165,7 @@ impl Bands {
         self.run(xs, out)
     }
 
-    // The samples xs, and the pitch pair's output for each in out, as far as both go.
+    // The samples xs, and the pitch filter's output for each in `out`, as far as both go.
     pub fn run(mut self, xs: &[f64], out: &mut [f64]) -> Bands
         ensures { λ r. ⌜ (r ≡ runOf self (take (length (now (out .entry))) (now (xs .entry))))
             × (now (out .exit) ≡ laid (outputsOf self (take (length (now (out .entry))) (now (xs .entry)))) (now (out .entry))) ⌝ }
@@ -267,7 +256,7 @@ fn no_decimated() -> [f32; PITCH_WINDOW]
     [0.0f32; PITCH_WINDOW]
 }
 
-// Every value k places down; the last k stay where they are.
+// Each value moves to the place k before its own; the first k go, and the last k places keep what they have.
 fn shift(v: &mut [f32], k: usize)
     requires { ⌜ k ≤ length (now v) ⌝ }
     ensures { λ _. ⌜ now (v .exit) ≡ drop k (now (v .entry)) ++ drop (length (now (v .entry)) - k) (now (v .entry)) ⌝ }
@@ -309,14 +298,14 @@ fn none_kept() -> [f32; KEPT]
     [0.0f32; KEPT]
 }
 
-// Every eighth output of a frame, as f32.
+// Every eighth output of a frame, the last of each eight, as f32.
 pub fn decimate(ys: &[f64]) -> [f32; KEPT]
     ensures { λ r. ⌜ r ≡ keptOf (now (ys .entry)) ⌝ }
 {
     let mut v = none_kept();
     let mut i = 0;
     while i < KEPT {
-        v[i] = narrow::narrow(output(ys, i * DECIMATE + 7));
+        v[i] = narrow::narrow(output(ys, i * DECIMATE + LAST));
         i += 1;
     }
     v

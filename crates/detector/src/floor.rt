@@ -1,14 +1,14 @@
-// The noise floor by minimum statistics: the least smoothed band power of the open window and of the 8 before it, each of 25 frames (2 s and more).
+// The noise floor by minimum statistics: the least smoothed band power of the open window and of the 8 full ones before it, each of 25 frames.
 ghost use mathlib.Core.Path.{_≡_};
 ghost use Rattle.detector.specs.Floor.{smoothedOf, windowMinOf, noMinima, freshMinima, freshFloor, minimaOf, lowestOf, leastOf, storedOf, floorOf};
 
 // Frames of a window: 250 ms.
 const FLOOR_WINDOW: usize = 25;
 
-// Windows whose minima are kept: 2 s.
+// Full windows whose minima are kept: 2 s.
 const FLOOR_WINDOWS: usize = 8;
 
-// Share of a frame's band power in the smoothed one.
+// How far the smoothed band power moves towards that of a frame.
 const SMOOTHING: f64 = 0.3;
 
 // The minima of the latest 8 windows, oldest first; the places after them are 0.
@@ -23,7 +23,8 @@ pub enum Smoothed {
     At(f64),
 }
 
-// The noise floor: the window that is open, of 0 to 24 frames, and the minima of those before it. An empty window's minimum is 0 and counts for nothing.
+// What the noise floor is read from: the smoothed power, the minimum and the frames (0 to 24) of the open window, and the minima of those before
+// it. The minimum of an empty window is 0 and isn't looked at.
 pub struct Floor {
     pub smoothed: Smoothed,
     pub window_min: f64,
@@ -119,26 +120,24 @@ impl Floor {
         float::min(self.window_min, s)
     }
 
-    // With the smoothed power s and the window's minimum m. A full window's minimum is kept, and a window begins.
+    // After a frame with the smoothed power s and the window's minimum m. Where it fills the window, the minimum is kept and a window begins.
     fn stored(self, s: f64, m: f64) -> Floor
         ensures { λ r. ⌜ r ≡ storedOf self s m ⌝ }
     {
         let minima = self.minima;
-        let frames = self.window_frames;
-        if frames < FLOOR_WINDOW - 1 {
+        if self.window_frames < FLOOR_WINDOW - 1 {
             return Floor {
                 smoothed: Smoothed::At(s),
                 window_min: m,
-                window_frames: frames + 1,
+                window_frames: self.window_frames + 1,
                 minima,
             };
         }
-        let all = minima.push(m);
         Floor {
             smoothed: Smoothed::At(s),
             window_min: 0.0,
             window_frames: 0,
-            minima: all,
+            minima: minima.push(m),
         }
     }
 
@@ -149,12 +148,9 @@ impl Floor {
         let old = self.smoothed;
         let s = smooth(old, e);
         let m = self.window_least(s);
-        let minima = self.minima;
-        let floor = minima.least(m);
-        let next = self.stored(s, m);
         Floored {
-            next,
-            floor,
+            next: self.stored(s, m),
+            floor: self.minima.least(m),
             smoothed: s,
             least: m,
         }

@@ -28,7 +28,7 @@ use level::FRAME;
 // A power below this counts as this, dB.
 const SILENCE_DB: f64 = -120.0;
 
-// An autocorrelation below this is that of a pure tone at half its period.
+// A pure tone is nearly its own opposite half a period later: an autocorrelation below this, and it is never speech.
 const TONE_LIMIT: f64 = -0.93;
 
 // 0 up to lo, 1 from hi on, and smooth between.
@@ -64,7 +64,7 @@ pub struct Frame {
     pub features: Features,
 }
 
-// The powers of a frame and of its band, and the band's in dB.
+// The mean squares of a frame and of its speech band, and the band's in dB (e).
 pub struct FramePowers {
     pub full: f64,
     pub band: f64,
@@ -87,22 +87,22 @@ pub struct Heard {
 }
 
 impl Features {
-    // The speech probability: energy times modulation times (0.3 + 0.7 * voicing), each a smooth step; 0 for a pure tone.
+    // The speech probability: energy times modulation times (0.3 + 0.7 * voicing), each a smooth step from 0 to 1; 0 for a pure tone.
     pub fn probability(self) -> f64
         ensures { λ r. ⌜ r ≡ probabilityOf self ⌝ }
     {
         if self.anti < TONE_LIMIT {
             return 0.0;
         }
-        let energy = smoothstep(self.over_floor_db, 4.0, 14.0);
-        let modulation = smoothstep(self.modulation_db, 2.0, 6.0);
+        let energy = smoothstep(self.over_floor_db, 4.0, 14.0); // dB
+        let modulation = smoothstep(self.modulation_db, 2.0, 6.0); // dB
         let voicing = smoothstep(self.voicing, 0.4, 0.75);
         energy * modulation * (0.3 + 0.7 * voicing)
     }
 }
 
 impl Bands {
-    // After the last sample of a frame.
+    // The powers, after the last sample of a frame.
     fn powers(self) -> FramePowers
         ensures { λ r. ⌜ r ≡ powersOf self ⌝ }
     {
@@ -133,8 +133,9 @@ fn shown(powers: FramePowers, floored: Floored, modulated: Modulated, voicing: V
     }
 }
 
-// Whether every number that a frame stores, or hands to the logarithm or the root, is finite. What went to the narrowing is, where what came of it is.
-fn sound(
+// Whether every number that a frame stores, or hands to the logarithm, the root or the narrowing, is finite. Where what came of the narrowing
+// is finite, so is what went to it.
+fn numbers_finite(
     filters: Filters,
     powers: FramePowers,
     values: [f32; KEPT],
@@ -169,30 +170,27 @@ impl FeatureDetector {
         }
     }
 
-    // What follows the filters over a frame: bands as they left it, and the pitch pair's outputs ys.
+    // What follows the filters over a frame: the bands as they left them, and the pitch filter's outputs ys.
     pub fn finish(self, bands: Bands, ys: &[f64]) -> Heard
         ensures { λ r. ⌜ r ≡ finishOf self bands (now (ys .entry)) ⌝ }
     {
         let powers = bands.powers();
         let values = filters::decimate(ys);
-        let old = self.decimated;
-        let decimated = old.keep(values);
-        let floor = self.floor;
-        let floored = floor.floor(powers.e);
-        let history = self.history;
-        let modulated = history.modulation(powers.e);
+        let decimated = self.decimated.keep(values);
+        let floored = self.floor.floor(powers.e);
+        let modulated = self.history.modulation(powers.e);
         let voicing = decimated.voicing();
         let frame = shown(powers, floored, modulated, voicing);
         let filters = bands.filters;
-        let finite = sound(filters, powers, values, floored, modulated, voicing);
-        let next_floor = floored.next;
-        let next_history = modulated.next;
+        let finite = numbers_finite(filters, powers, values, floored, modulated, voicing);
+        let floor = floored.next;
+        let history = modulated.next;
         Heard {
             detector: FeatureDetector {
                 filters,
                 decimated,
-                floor: next_floor,
-                history: next_history,
+                floor,
+                history,
             },
             frame,
             finite,
@@ -205,8 +203,7 @@ impl FeatureDetector {
     {
         let x = samples(xs);
         let mut ys = filters::no_samples();
-        let filters = self.filters;
-        let bands = filters.begin().run(&x, &mut ys);
+        let bands = self.filters.begin().run(&x, &mut ys);
         self.finish(bands, &ys)
     }
 }

@@ -19,16 +19,28 @@ ghost use Rattle.detector.specs.EightLags.{Correlations};
 use super::filters::Decimated;
 use super::filters::PITCH_WINDOW;
 
-// Pitch periods of 400 Hz and of 80 Hz, values at 6 kHz.
+// The periods of 400 Hz and of 80 Hz, in values at 6 kHz.
 const LAG_MIN: usize = 15;
 
 const LAG_MAX: usize = 75;
 
-// Energies and roots below this count as silence.
+// The lags whose correlations are computed: whole eights, of which the first 61 are used.
+const LAGS: usize = 64;
+
+// Half a window, whose energy is compared with the other half's.
+const HALF: usize = PITCH_WINDOW / 2;
+
+// A window without its last values, as many as the least lag has.
+const HEAD: usize = PITCH_WINDOW - LAG_MIN;
+
+// An energy or a root below this counts as none.
 const TINY: f64 = 1e-12;
 
-// The energies of the window without its last and without its first values, as many as the lag has; the largest and the smallest
-// autocorrelation so far; and whether every number that went to the root was finite.
+// The least ratio of the halves' energies: 10 dB.
+const EVEN: f64 = 0.1;
+
+// At a lag: the energies of the window without its last values (head) and without its first (tail), as many as the lag has; the largest and the
+// smallest normalised autocorrelation so far; and whether every number that went to the root was finite.
 pub struct Ends {
     pub head: f64,
     pub tail: f64,
@@ -85,7 +97,8 @@ struct Eight {
     s7: f64,
 }
 
-// The correlations for lag to lag + 7 side by side, which the processor computes two by two; what they don't share follows by itself.
+// The correlations for the lags lag to lag + 7 in one loop, of which the processor computes two at once. The loop goes as far as the longest lag
+// does; what the shorter ones have beyond it follows one lag after the other.
 fn eight_lags(x: &[f64], lag: usize) -> Eight
     requires { ⌜ lag + 7 ≤ length (now x) ⌝ }
     ensures { λ r. ⌜ Correlations (now (x .entry)) lag r ⌝ }
@@ -132,20 +145,20 @@ fn eight_lags(x: &[f64], lag: usize) -> Eight
     }
 }
 
-fn no_sums() -> [f64; 64]
+fn no_sums() -> [f64; LAGS]
     ensures { λ r. ⌜ length r ≡ 64 ⌝ }
 {
-    [0.0; 64]
+    [0.0; LAGS]
 }
 
-// The correlations for the lags 15 to 78, of which 61 are used.
-fn correlations(x: &[f64]) -> [f64; 64]
+// The correlations for the lags 15 to 78; those to 75 are used.
+fn correlations(x: &[f64]) -> [f64; LAGS]
     requires { ⌜ length (now x) ≡ 240 ⌝ }
     ensures { λ r. ⌜ ((k : ℕ) → k < 64 → getD r k nan ≡ correlationOf (now (x .entry)) (k + 15)) ⌝ }
 {
     let mut t = no_sums();
     let mut k = 0;
-    while k < 64 {
+    while k < LAGS {
         let g = eight_lags(x, k + LAG_MIN);
         t[k] = g.s0;
         t[k + 1] = g.s1;
@@ -161,7 +174,7 @@ fn correlations(x: &[f64]) -> [f64; 64]
 }
 
 impl Ends {
-    // The energies at a lag, from those at the lag before; at the first lag they are there.
+    // The energies at a lag, from those at the lag before; those at the first lag are given.
     fn at_lag(mut self, x: &[f64], lag: usize) -> Ends
         requires { ⌜ (length (now x) ≡ 240) × (15 ≤ lag) × (lag < 76) ⌝ }
         ensures { λ r. ⌜ r ≡ energiesAt (now (x .entry)) lag self ⌝ }
@@ -176,7 +189,8 @@ impl Ends {
         self
     }
 
-    // With a lag's correlation. A root below 1e-12 is passed over; the root of a negative number is none, and max and min pass over what comes of it.
+    // With a lag's correlation, `sum`. A root below 1e-12 is passed over; the root of a negative number is NaN, and max and min pass over what
+    // comes of it.
     fn turn(mut self, sum: f64) -> Ends
         ensures { λ r. ⌜ r ≡ turnOf self sum ⌝ }
     {
@@ -208,13 +222,13 @@ impl Ends {
     }
 }
 
-// The voicing of 240 values. The first half's energy is the beginning of the head's.
+// The voicing of 240 values. The sum of the first half's energy is the beginning of the head's.
 fn window(x: &[f64]) -> Voicing
     requires { ⌜ length (now x) ≡ 240 ⌝ }
     ensures { λ r. ⌜ r ≡ windowOf (now (x .entry)) ⌝ }
 {
-    let first = energy(0.0, &x[..120]);
-    let second = energy(0.0, &x[120..]);
+    let first = energy(0.0, &x[..HALF]);
+    let second = energy(0.0, &x[HALF..]);
     if uneven(first, second) {
         return Voicing {
             voiced: 0.0,
@@ -222,8 +236,8 @@ fn window(x: &[f64]) -> Voicing
             finite: true,
         };
     }
-    let head = energy(first, &x[120..225]);
-    let tail = energy(0.0, &x[15..]);
+    let head = energy(first, &x[HALF..HEAD]);
+    let tail = energy(0.0, &x[LAG_MIN..]);
     let start = Ends {
         head,
         tail,
@@ -245,7 +259,7 @@ fn uneven(first: f64, second: f64) -> bool
 {
     let low = float::min(first, second);
     let high = float::max(first, second);
-    (low < TINY) | (low < 0.1 * high)
+    (low < TINY) | (low < EVEN * high)
 }
 
 fn no_window() -> [f64; PITCH_WINDOW]

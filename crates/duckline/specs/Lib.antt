@@ -1,3 +1,1 @@
-pub mod Line
-pub mod Frames
-pub mod Reads
+pub mod Ending

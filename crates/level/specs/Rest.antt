@@ -10,19 +10,21 @@ use Rattle.float.specs.Same.{sameOf, allSame}
 use Rattle.level.specs.declared.Weighing.{Weighing}
 use Rattle.level.specs.Weighing.{weighed}
 
+-- surely the same: the same bits, and no NaN
 unfoldable pub sameState : State → State → Bool
 sameState s t = sameOf (s .z1) (t .z1) && sameOf (s .z2) (t .z2)
 
--- a sample x leaves the section's state as it is
+-- a sample x surely leaves the section's state as it is
 unfoldable pub holdsOf : State → Coefficients → Float → Bool
 holdsOf s c x = sameState (tickOf s c x .state) s
 
--- all samples are x, which leaves the shelf's state as it is
+-- all samples are surely x, which leaves the shelf's state as it is
 unfoldable pub restsOf : Weighing → Float → List Float → Bool
 restsOf w x xs = allSame x xs && holdsOf (w .shelf) kShelf x
 
 -- ---- the steps
 
+-- the shelf's output for a sample x
 abbrev pub shelfOutput : Weighing → Float → Float
 shelfOutput w x = tickOf (w .shelf) kShelf x .y
 

@@ -40,7 +40,7 @@ const MOMENTARY: usize = 40;
 // Frames of the short-term loudness: 3 s.
 const SHORT_TERM: usize = 300;
 
-// What a sample leaves of the fast mean square: exp(-1 / 2400), a time constant of 50 ms.
+// The share of the fast mean square that stays with each sample: exp(-1 / 2400), a time constant of 50 ms.
 const FAST_COEFF: f64 = 0.9995833639986813;
 
 // The weight of the one channel.
@@ -105,7 +105,7 @@ pub struct Framed {
     pub finite: bool,
 }
 
-// Whether two states are surely the same: their numbers have the same bits. A state with a NaN is never the same.
+// Whether two states are surely the same: their numbers have the same bits, and none is NaN.
 pub fn same_state(s: State, t: State) -> bool
     ensures { λ r. ⌜ (r ≡ sameState s t) × (T r → s ≡ t) ⌝ }
 {

@@ -1,6 +1,5 @@
--- Both strands' filters side by side: what the loops over both come to.
+-- Both strands' filters side by side, to save time: what the loops over both come to. No meaning rests on it.
 use mathlib.Core.List.{List, foldl}
-use mathlib.Core.Bool.{Bool, cond}
 use lib.Ieee.{Float}
 use Rattle.biquad.specs.declared.State.{State}
 use Rattle.level.specs.declared.Weighing.{Weighing}
@@ -8,6 +7,8 @@ use Rattle.level.specs.Weighing as weighing
 use Rattle.level.specs.Rest.{heldRun}
 use Rattle.detector.specs.declared.filters.Bands.{Bands}
 use Rattle.detector.specs.Filters as filters
+use Rattle.paired_filters.specs.declared.Side.{Side}
+use Rattle.paired_filters.specs.declared.Side.the-variants.{Key, Bed}
 use Rattle.paired_filters.specs.declared.Weighed.{Weighed}
 use Rattle.paired_filters.specs.declared.Beside.{Beside}
 use Rattle.paired_filters.specs.declared.Banded.{Banded}
@@ -27,16 +28,17 @@ besideOf v h o xs ys = record { held = heldRun v h xs; other = foldl weighing.st
 unfoldable pub bandedOf : Bands → Bands → List Float → List Float → Banded
 bandedOf k b xs ys = record { key = foldl filters.stepOf k xs; bed = foldl filters.stepOf b ys }
 
--- ---- both strands' numbers side by side, and one strand's of them
+-- ---- both strands' numbers side by side, and those of one strand
 
 abbrev pub statesOf : State → State → States
 statesOf k b = record { z1 = record { key = k .z1; bed = b .z1 }; z2 = record { key = k .z2; bed = b .z2 } }
 
-abbrev pub numberAt : Pair → Bool → Float
-numberAt p bed = cond bed (p .bed) (p .key)
+abbrev pub numberAt : Pair → Side → Float
+numberAt p Key = p .key
+numberAt p Bed = p .bed
 
-abbrev pub stateAt : States → Bool → State
-stateAt s bed = record { z1 = numberAt (s .z1) bed; z2 = numberAt (s .z2) bed }
+abbrev pub stateAt : States → Side → State
+stateAt s side = record { z1 = numberAt (s .z1) side; z2 = numberAt (s .z2) side }
 
 abbrev pub weighedPairs : Weighed → WeighedPairs
 weighedPairs w = record {
@@ -46,12 +48,12 @@ weighedPairs w = record {
   energy = record { key = w .key .energy; bed = w .bed .energy };
 }
 
-abbrev pub weighingAt : WeighedPairs → Bool → Weighing
-weighingAt p bed = record {
-  shelf = stateAt (p .shelf) bed;
-  «high_pass» = stateAt (p .«high_pass») bed;
-  fast = numberAt (p .fast) bed;
-  energy = numberAt (p .energy) bed;
+abbrev pub weighingAt : WeighedPairs → Side → Weighing
+weighingAt p side = record {
+  shelf = stateAt (p .shelf) side;
+  «high_pass» = stateAt (p .«high_pass») side;
+  fast = numberAt (p .fast) side;
+  energy = numberAt (p .energy) side;
 }
 
 abbrev pub bandedPairs : Banded → BandedPairs
@@ -65,17 +67,17 @@ bandedPairs f = record {
   pitch = record { key = f .key .pitch; bed = f .bed .pitch };
 }
 
-abbrev pub bandsAt : BandedPairs → Bool → Bands
-bandsAt p bed = record {
+abbrev pub bandsAt : BandedPairs → Side → Bands
+bandsAt p side = record {
   filters = record {
-    «high_pass» = stateAt (p .«high_pass») bed;
-    «low_pass» = stateAt (p .«low_pass») bed;
-    pitch1 = stateAt (p .pitch1) bed;
-    pitch2 = stateAt (p .pitch2) bed;
+    «high_pass» = stateAt (p .«high_pass») side;
+    «low_pass» = stateAt (p .«low_pass») side;
+    pitch1 = stateAt (p .pitch1) side;
+    pitch2 = stateAt (p .pitch2) side;
   };
-  full = numberAt (p .full) bed;
-  band = numberAt (p .band) bed;
-  pitch = numberAt (p .pitch) bed;
+  full = numberAt (p .full) side;
+  band = numberAt (p .band) side;
+  pitch = numberAt (p .pitch) side;
 }
 
 -- both strands' filters over their samples

@@ -7,9 +7,14 @@ ghost use Rattle.paired_filters.specs.Pairs.{weighedOf, besideOf, banded
 use biquad::State;
 use detector::Bands;
 use detector::Filters;
+use level::FRAME;
 use level::Weighing;
 
-const FRAME: usize = 480; // samples of a strand, 10 ms at 48 kHz
+// One of a chain's two strands.
+pub enum Side {
+    Key,
+    Bed,
+}
 
 // The level's filters of both strands.
 pub struct Weighed {
@@ -41,8 +46,8 @@ pub struct States {
     pub z2: Pair,
 }
 
-// What `Weighed` holds, the strands' numbers side by side. Where a loop's results lie so, the compiler computes both strands with one
-// instruction; where each strand's lie together, it joins the numbers of different sections instead.
+// What `Weighed` holds, the strands' numbers side by side. Where a loop's results lie so in memory, the compiler computes both strands with one
+// instruction; where each strand's numbers lie together, it joins the numbers of different sections instead.
 pub struct WeighedPairs {
     pub shelf: States,
     pub high_pass: States,
@@ -61,7 +66,7 @@ pub struct BandedPairs {
     pub pitch: Pair,
 }
 
-// Both, after a frame.
+// The filters of both kinds after a frame.
 pub struct Filtered {
     pub weighed: WeighedPairs,
     pub banded: BandedPairs,
@@ -84,130 +89,106 @@ fn joined(key: State, bed: State) -> States
 }
 
 impl States {
-    // The bed's state, or the key's.
-    fn strand(self, bed: bool) -> State
-        ensures { λ r. ⌜ r ≡ stateAt self bed ⌝ }
+    // One strand's state.
+    fn strand(self, side: Side) -> State
+        ensures { λ r. ⌜ r ≡ stateAt self side ⌝ }
     {
-        let z1 = self.z1;
-        let z2 = self.z2;
         State {
-            z1: z1.strand(bed),
-            z2: z2.strand(bed),
+            z1: self.z1.strand(side),
+            z2: self.z2.strand(side),
         }
     }
 }
 
 impl Pair {
-    // The bed's number, or the key's.
-    fn strand(self, bed: bool) -> f64
-        ensures { λ r. ⌜ r ≡ numberAt self bed ⌝ }
+    // One strand's number.
+    fn strand(self, side: Side) -> f64
+        ensures { λ r. ⌜ r ≡ numberAt self side ⌝ }
     {
-        float::pick(bed, self.bed, self.key)
+        match side {
+            Side::Key => self.key,
+            Side::Bed => self.bed,
+        }
     }
 }
 
 impl Weighed {
+    // The strands' numbers side by side.
     fn pairs(self) -> WeighedPairs
         ensures { λ r. ⌜ r ≡ weighedPairs self ⌝ }
     {
-        let key = self.key;
-        let bed = self.bed;
-        let key_shelf = key.shelf;
-        let bed_shelf = bed.shelf;
-        let key_high_pass = key.high_pass;
-        let bed_high_pass = bed.high_pass;
         WeighedPairs {
-            shelf: joined(key_shelf, bed_shelf),
-            high_pass: joined(key_high_pass, bed_high_pass),
+            shelf: joined(self.key.shelf, self.bed.shelf),
+            high_pass: joined(self.key.high_pass, self.bed.high_pass),
             fast: Pair {
-                key: key.fast,
-                bed: bed.fast,
+                key: self.key.fast,
+                bed: self.bed.fast,
             },
             energy: Pair {
-                key: key.energy,
-                bed: bed.energy,
+                key: self.key.energy,
+                bed: self.bed.energy,
             },
         }
     }
 }
 
 impl WeighedPairs {
-    // The bed's filters, or the key's.
-    pub fn strand(self, bed: bool) -> Weighing
-        ensures { λ r. ⌜ r ≡ weighingAt self bed ⌝ }
+    // One strand's filters.
+    pub fn strand(self, side: Side) -> Weighing
+        ensures { λ r. ⌜ r ≡ weighingAt self side ⌝ }
     {
-        let shelf = self.shelf;
-        let high_pass = self.high_pass;
-        let fast = self.fast;
-        let energy = self.energy;
         Weighing {
-            shelf: shelf.strand(bed),
-            high_pass: high_pass.strand(bed),
-            fast: fast.strand(bed),
-            energy: energy.strand(bed),
+            shelf: self.shelf.strand(side),
+            high_pass: self.high_pass.strand(side),
+            fast: self.fast.strand(side),
+            energy: self.energy.strand(side),
         }
     }
 }
 
 impl Banded {
+    // The strands' numbers side by side.
     fn pairs(self) -> BandedPairs
         ensures { λ r. ⌜ r ≡ bandedPairs self ⌝ }
     {
-        let key = self.key;
-        let bed = self.bed;
-        let k = key.filters;
-        let b = bed.filters;
-        let key_high_pass = k.high_pass;
-        let bed_high_pass = b.high_pass;
-        let key_low_pass = k.low_pass;
-        let bed_low_pass = b.low_pass;
-        let key_pitch1 = k.pitch1;
-        let bed_pitch1 = b.pitch1;
-        let key_pitch2 = k.pitch2;
-        let bed_pitch2 = b.pitch2;
+        let k = self.key.filters;
+        let b = self.bed.filters;
         BandedPairs {
-            high_pass: joined(key_high_pass, bed_high_pass),
-            low_pass: joined(key_low_pass, bed_low_pass),
-            pitch1: joined(key_pitch1, bed_pitch1),
-            pitch2: joined(key_pitch2, bed_pitch2),
+            high_pass: joined(k.high_pass, b.high_pass),
+            low_pass: joined(k.low_pass, b.low_pass),
+            pitch1: joined(k.pitch1, b.pitch1),
+            pitch2: joined(k.pitch2, b.pitch2),
             full: Pair {
-                key: key.full,
-                bed: bed.full,
+                key: self.key.full,
+                bed: self.bed.full,
             },
             band: Pair {
-                key: key.band,
-                bed: bed.band,
+                key: self.key.band,
+                bed: self.bed.band,
             },
             pitch: Pair {
-                key: key.pitch,
-                bed: bed.pitch,
+                key: self.key.pitch,
+                bed: self.bed.pitch,
             },
         }
     }
 }
 
 impl BandedPairs {
-    // The bed's filters, or the key's.
-    pub fn strand(self, bed: bool) -> Bands
-        ensures { λ r. ⌜ r ≡ bandsAt self bed ⌝ }
+    // One strand's filters.
+    pub fn strand(self, side: Side) -> Bands
+        ensures { λ r. ⌜ r ≡ bandsAt self side ⌝ }
     {
-        let high_pass = self.high_pass;
-        let low_pass = self.low_pass;
-        let pitch1 = self.pitch1;
-        let pitch2 = self.pitch2;
-        let full = self.full;
-        let band = self.band;
-        let pitch = self.pitch;
         Bands {
             filters: Filters {
-                high_pass: high_pass.strand(bed),
-                low_pass: low_pass.strand(bed),
-                pitch1: pitch1.strand(bed),
-                pitch2: pitch2.strand(bed),
+                high_pass: self.high_pass.strand(side),
+                low_pass: self.low_pass.strand(side),
+                pitch1: self.pitch1.strand(side),
+                pitch2: self.pitch2.strand(side),
             },
-            full: full.strand(bed),
-            band: band.strand(bed),
-            pitch: pitch.strand(bed),
+            full: self.full.strand(side),
+            band: self.band.strand(side),
+            pitch: self.pitch.strand(side),
         }
     }
 }
@@ -248,7 +229,7 @@ fn weigh_beside(v: f64, held: Weighing, other: Weighing, xs: &[f64], ys: &[f64])
 
 // The level's filters over a frame. In silence a shelf's numbers end below the smallest normal number, where the processor is slow, and stay:
 // then they aren't computed.
-fn weigh_frame(key: Weighing, bed: Weighing, xs: &[f64; 480], ys: &[f64; 480]) -> WeighedPairs
+fn weigh_frame(key: Weighing, bed: Weighing, xs: &[f64; FRAME], ys: &[f64; FRAME]) -> WeighedPairs
     ensures { λ r. ⌜ r ≡ weighedPairs (weighedOf key bed (now (xs .entry)) (now (ys .entry))) ⌝ }
 {
     let x = xs[0];
@@ -270,18 +251,18 @@ fn weigh_frame(key: Weighing, bed: Weighing, xs: &[f64; 480], ys: &[f64; 480]) -
     weigh(key, bed, xs, ys)
 }
 
-// The detector's filters likewise; the pitch pair's output for each sample goes to `out` and `also`. `band_frame` shows the lengths.
+// The detector's filters likewise; the outputs of each strand's pitch filter go to `key_pitch` and `bed_pitch`. `band_frame` shows the lengths.
 fn band(
     key: Bands,
     bed: Bands,
     xs: &[f64],
     ys: &[f64],
-    out: &mut [f64],
-    also: &mut [f64],
+    key_pitch: &mut [f64],
+    bed_pitch: &mut [f64],
 ) -> BandedPairs
-    requires { ⌜ (length (now xs) ≡ frameLength) × (length (now ys) ≡ frameLength) × (length (now out) ≡ frameLength) × (length (now also) ≡ frameLength) ⌝ }
-    ensures { λ r. ⌜ (r ≡ bandedPairs (bandedOf key bed (now (xs .entry)) (now (ys .entry)))) × (now (out .exit) ≡ outputsOf key (now (xs .entry)))
-        × (now (also .exit) ≡ outputsOf bed (now (ys .entry))) ⌝ }
+    requires { ⌜ (length (now xs) ≡ frameLength) × (length (now ys) ≡ frameLength) × (length (now «key_pitch») ≡ frameLength) × (length (now «bed_pitch») ≡ frameLength) ⌝ }
+    ensures { λ r. ⌜ (r ≡ bandedPairs (bandedOf key bed (now (xs .entry)) (now (ys .entry)))) × (now («key_pitch» .exit) ≡ outputsOf key (now (xs .entry)))
+        × (now («bed_pitch» .exit) ≡ outputsOf bed (now (ys .entry))) ⌝ }
 {
     let mut k = key;
     let mut b = bed;
@@ -289,33 +270,33 @@ fn band(
     while i < FRAME {
         k = k.step(xs[i]);
         b = b.step(ys[i]);
-        out[i] = k.pitch;
-        also[i] = b.pitch;
+        key_pitch[i] = k.pitch;
+        bed_pitch[i] = b.pitch;
         i += 1;
     }
     let f = Banded { key: k, bed: b };
     f.pairs()
 }
 
-// The detector's filters over a frame; a strand in silence goes by itself.
+// The detector's filters over a frame. Where a strand is in silence, each strand goes by itself.
 fn band_frame(
     key: Bands,
     bed: Bands,
-    xs: &[f64; 480],
-    ys: &[f64; 480],
-    out: &mut [f64; 480],
-    also: &mut [f64; 480],
+    xs: &[f64; FRAME],
+    ys: &[f64; FRAME],
+    key_pitch: &mut [f64; FRAME],
+    bed_pitch: &mut [f64; FRAME],
 ) -> BandedPairs
-    ensures { λ r. ⌜ (r ≡ bandedPairs (bandedOf key bed (now (xs .entry)) (now (ys .entry)))) × (now (out .exit) ≡ outputsOf key (now (xs .entry)))
-        × (now (also .exit) ≡ outputsOf bed (now (ys .entry))) ⌝ }
+    ensures { λ r. ⌜ (r ≡ bandedPairs (bandedOf key bed (now (xs .entry)) (now (ys .entry)))) × (now («key_pitch» .exit) ≡ outputsOf key (now (xs .entry)))
+        × (now («bed_pitch» .exit) ≡ outputsOf bed (now (ys .entry))) ⌝ }
 {
     if key.quiet(xs[0], xs) | bed.quiet(ys[0], ys) {
-        let k = key.alone(xs, out);
-        let b = bed.alone(ys, also);
+        let k = key.alone(xs, key_pitch);
+        let b = bed.alone(ys, bed_pitch);
         let f = Banded { key: k, bed: b };
         return f.pairs();
     }
-    band(key, bed, xs, ys, out, also)
+    band(key, bed, xs, ys, key_pitch, bed_pitch)
 }
 
 // The level's and the detector's filters in one loop: neither waits for the other. `filter_frame` shows the lengths.
@@ -324,12 +305,12 @@ fn filter(
     banded: Banded,
     xs: &[f64],
     ys: &[f64],
-    out: &mut [f64],
-    also: &mut [f64],
+    key_pitch: &mut [f64],
+    bed_pitch: &mut [f64],
 ) -> Filtered
-    requires { ⌜ (length (now xs) ≡ frameLength) × (length (now ys) ≡ frameLength) × (length (now out) ≡ frameLength) × (length (now also) ≡ frameLength) ⌝ }
-    ensures { λ r. ⌜ (r ≡ filteredOf weighed banded (now (xs .entry)) (now (ys .entry))) × (now (out .exit) ≡ outputsOf (banded .key) (now (xs .entry)))
-        × (now (also .exit) ≡ outputsOf (banded .bed) (now (ys .entry))) ⌝ }
+    requires { ⌜ (length (now xs) ≡ frameLength) × (length (now ys) ≡ frameLength) × (length (now «key_pitch») ≡ frameLength) × (length (now «bed_pitch») ≡ frameLength) ⌝ }
+    ensures { λ r. ⌜ (r ≡ filteredOf weighed banded (now (xs .entry)) (now (ys .entry))) × (now («key_pitch» .exit) ≡ outputsOf (banded .key) (now (xs .entry)))
+        × (now («bed_pitch» .exit) ≡ outputsOf (banded .bed) (now (ys .entry))) ⌝ }
 {
     let mut v = weighed.key;
     let mut w = weighed.bed;
@@ -343,8 +324,8 @@ fn filter(
         w = w.step(y);
         p = p.step(x);
         q = q.step(y);
-        out[i] = p.pitch;
-        also[i] = q.pitch;
+        key_pitch[i] = p.pitch;
+        bed_pitch[i] = q.pitch;
         i += 1;
     }
     let l = Weighed { key: v, bed: w };
@@ -355,30 +336,24 @@ fn filter(
     }
 }
 
-// All filters over a frame; where a strand's samples are all the same, it may be at rest. The pitch pair's output for each sample goes to `out`
-// and `also`.
+// All filters over a frame: xs are the key's samples, ys the bed's. The outputs of each strand's pitch filter go to `key_pitch` and `bed_pitch`.
+// Where a strand's samples are all the same, its filters may be at rest.
 pub fn filter_frame(
     weighed: Weighed,
     banded: Banded,
-    xs: &[f64; 480],
-    ys: &[f64; 480],
-    out: &mut [f64; 480],
-    also: &mut [f64; 480],
+    xs: &[f64; FRAME],
+    ys: &[f64; FRAME],
+    key_pitch: &mut [f64; FRAME],
+    bed_pitch: &mut [f64; FRAME],
 ) -> Filtered
-    ensures { λ r. ⌜ (r ≡ filteredOf weighed banded (now (xs .entry)) (now (ys .entry))) × (now (out .exit) ≡ outputsOf (banded .key) (now (xs .entry)))
-        × (now (also .exit) ≡ outputsOf (banded .bed) (now (ys .entry))) ⌝ }
+    ensures { λ r. ⌜ (r ≡ filteredOf weighed banded (now (xs .entry)) (now (ys .entry))) × (now («key_pitch» .exit) ≡ outputsOf (banded .key) (now (xs .entry)))
+        × (now («bed_pitch» .exit) ≡ outputsOf (banded .bed) (now (ys .entry))) ⌝ }
 {
     if float::all_same(xs[0], xs) | float::all_same(ys[0], ys) {
-        let v = weighed.key;
-        let u = weighed.bed;
-        let k = banded.key;
-        let b = banded.bed;
-        let w = weigh_frame(v, u, xs, ys);
-        let f = band_frame(k, b, xs, ys, out, also);
         return Filtered {
-            weighed: w,
-            banded: f,
+            weighed: weigh_frame(weighed.key, weighed.bed, xs, ys),
+            banded: band_frame(banded.key, banded.bed, xs, ys, key_pitch, bed_pitch),
         };
     }
-    filter(weighed, banded, xs, ys, out, also)
+    filter(weighed, banded, xs, ys, key_pitch, bed_pitch)
 }

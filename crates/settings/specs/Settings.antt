@@ -3,6 +3,7 @@ use mathlib.Core.Bool.{Bool, true, cond, _||_}
 use lib.Ieee.{Float, binary64, lt, eq, neg, ofBits}
 use lib.Ieee.Scale.{finite}
 use Rattle.float.specs.Arithmetic.{zero64}
+use Rattle.float.specs.Silence.{silenceLufs}
 use Rattle.vad.specs.declared.VadSettings.{VadSettings}
 use Rattle.ratio.specs.declared.Duck.{Duck}
 use Rattle.settings.specs.declared.Range.{Range}
@@ -19,7 +20,7 @@ abbrev pub rangesWith : Range → Ranges
 rangesWith speed = record {
   threshold = from zero64 (ofBits binary64 0x3ff0000000000000);
   «hold_ms» = from zero64 (ofBits binary64 0x40ed4c0000000000);
-  «gate_lufs» = from (neg (ofBits binary64 0x4059000000000000)) zero64;
+  «gate_lufs» = from silenceLufs zero64;
   «ratio_lu» = from zero64 (ofBits binary64 0x4044000000000000);
   «max_reduction_db» = from zero64 (ofBits binary64 0x404e000000000000);
   speed = speed;

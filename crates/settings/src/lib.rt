@@ -17,6 +17,7 @@ ghost use Rattle.settings.specs.Settings.{
 };
 use float::Db;
 use float::Lufs;
+use float::SILENCE_LUFS;
 use ratio::Duck;
 use vad::VadSettings;
 
@@ -47,7 +48,7 @@ const HOLD_MS: Range = Range {
 };
 
 const GATE_LUFS: Range = Range {
-    low: -100.0,
+    low: SILENCE_LUFS,
     high: 0.0,
 };
 

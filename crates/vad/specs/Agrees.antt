@@ -4,6 +4,7 @@ use mathlib.Core.List.{List, [], _∷_, foldl}
 use lib.Dec.{T}
 use lib.ListN.{length}
 use lib.Ieee.{Float}
+use Rattle.level.specs.Bs1770.{frameLength, shortTermFrames}
 use Rattle.level.specs.Deque.{meterOf}
 use Rattle.detector.specs.Agrees as detector
 use Rattle.vad.specs.declared.VadSettings.{VadSettings}
@@ -14,7 +15,7 @@ use Rattle.vad.specs.Rust.{RustVad, newVad, rustReset, rustPush}
 
 pub record Agrees (t : Strand) (v : RustVad) : Type 0 where
   pub level : v .level ≡ meterOf (t .level)
-  pub places : length (t .level .powers .list) ≡ 300
+  pub places : length (t .level .powers .list) ≡ shortTermFrames
   pub detector : detector.Agrees (t .detector) (v .detector)
   pub active : v .state .«speech_active» ≡ t .decision .active
   pub probability : v .state .«speech_probability» ≡ t .decision .probability
@@ -41,7 +42,7 @@ rustCalled v reset = rustReset v
 -- each frame has 480 samples, and its numbers are finite
 abbrev pub Accepted : Strand → List Call → Type 0
 Accepted t [] = Unit {0}
-Accepted t (frame xs s ∷ cs) = (length xs ≡ 480) × (T (frameOf t xs s .finite) × Accepted (frameOf t xs s .strand) cs)
+Accepted t (frame xs s ∷ cs) = (length xs ≡ frameLength) × (T (frameOf t xs s .finite) × Accepted (frameOf t xs s .strand) cs)
 Accepted t (reset ∷ cs) = Accepted (resetOf t) cs
 
 -- after any such list a strand stands for the Rust's `Vad`, and the next frame's answer is the Rust's state after it
@@ -52,6 +53,6 @@ abbrev pub StrandAnswers : Type 0
 StrandAnswers =
     (cs : List Call) (xs : List Float) (s : VadSettings)
     → Accepted freshOf cs
-    → length xs ≡ 480
+    → length xs ≡ frameLength
     → T (frameOf (foldl called freshOf cs) xs s .finite)
     → rustPush (foldl rustCalled newVad cs) xs s .state ≡ frameOf (foldl called freshOf cs) xs s .state

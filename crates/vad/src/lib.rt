@@ -27,7 +27,8 @@ use float::Lufs;
 use level::Level;
 use level::Reading;
 
-const ONSET_LIMIT: u64 = 4294967295; // 2^32 - 1
+// The most onsets that a strand counts: 2^32 - 1.
+const ONSET_LIMIT: u64 = 4294967295;
 
 // A strand's settings: the threshold of the probability, the hold, ms, and the loudness below which nothing is speech.
 pub struct VadSettings {
@@ -95,7 +96,7 @@ fn heard(gated: bool, probability: f64) -> f64
     float::pick(gated, 0.0, probability)
 }
 
-// The smoothed probability p with a frame's: fast up, slow down.
+// The smoothed probability p with a frame's: half of the way up, a fifth of the way down.
 fn smoothed(p: f64, probability: f64) -> f64
     ensures { λ r. ⌜ r ≡ smoothedOf p probability ⌝ }
 {
@@ -103,14 +104,14 @@ fn smoothed(p: f64, probability: f64) -> f64
     p + a * (probability - p)
 }
 
-// Speech goes off strictly below this.
+// Speech that turns on at `on` goes off strictly below this.
 fn off_below(on: f64) -> f64
     ensures { λ r. ⌜ r ≡ offOf on ⌝ }
 {
     float::max(on - 0.15, 0.05)
 }
 
-// n, which fits. `hold_frames` shows that.
+// n as u32, which it fits: `hold_frames` shows that.
 fn short(n: u64) -> u32
     requires { ⌜ n < 4294967296 ⌝ }
     ensures { λ r. ⌜ r ≡ n ⌝ }
@@ -132,7 +133,7 @@ pub fn hold_frames(ms: f64) -> u32
     0
 }
 
-// The mean speech power with a frame's.
+// The mean speech power with a frame's: a hundredth of the way, which is a time constant of 1 s.
 fn mean(old: SpeechPower, power: f64) -> f64
     ensures { λ r. ⌜ r ≡ meanOf old power ⌝ }
 {
@@ -271,21 +272,17 @@ fn state(d: Decision, gated: bool, frame: Frame, reading: Reading) -> VadState
     ensures { λ r. ⌜ r ≡ stateOf d gated frame reading ⌝ }
 {
     let power = d.power;
-    let level = speech_level(power);
-    let features = frame.features;
-    let momentary = reading.momentary;
-    let short_term = reading.short_term;
     VadState {
         speech_active: d.active,
         speech_probability: d.probability,
-        speech_level: level,
+        speech_level: speech_level(power),
         level_dbfs: frame.level_dbfs,
-        momentary_lufs: Lufs(tenths(momentary.0)),
+        momentary_lufs: Lufs(tenths(reading.momentary.0)),
         gated,
-        short_term_lufs: Lufs(tenths(short_term.0)),
+        short_term_lufs: Lufs(tenths(reading.short_term.0)),
         speech_onsets: d.onsets,
         speech_offsets: d.offsets,
-        features: rounded(features),
+        features: rounded(frame.features),
     }
 }
 
@@ -310,13 +307,11 @@ fn level_number(l: SpeechLevel) -> f64
 }
 
 // Whether every number that the decision d stores, answers as s, or hands to the power or the logarithm is finite.
-fn sound(d: Decision, s: VadState) -> bool
+fn numbers_finite(d: Decision, s: VadState) -> bool
     ensures { λ r. ⌜ r ≡ allFinite (numbersOf d s) ⌝ }
 {
     let power = d.power;
     let level = s.speech_level;
-    let momentary = s.momentary_lufs;
-    let short_term = s.short_term_lufs;
     let f = s.features;
     let numbers = [
         d.probability,
@@ -324,8 +319,8 @@ fn sound(d: Decision, s: VadState) -> bool
         float::pick(d.active, s.level_dbfs / 10.0, 0.0),
         level_number(level),
         s.level_dbfs,
-        momentary.0,
-        short_term.0,
+        s.momentary_lufs.0,
+        s.short_term_lufs.0,
         f.over_floor_db,
         f.modulation_db,
         f.voicing,
@@ -340,12 +335,10 @@ pub fn finish(d: Decision, l: level::Framed, h: Heard, settings: VadSettings) ->
 {
     let reading = l.reading;
     let frame = h.frame;
-    let momentary = reading.momentary;
-    let gate = settings.gate_lufs;
-    let gated = momentary.0 < gate.0;
+    let gated = reading.momentary.0 < settings.gate_lufs.0;
     let decision = d.decide(heard(gated, frame.probability), frame.level_dbfs, settings);
     let shown = state(decision, gated, frame, reading);
-    let finite = l.finite & h.finite & sound(decision, shown);
+    let finite = l.finite & h.finite & numbers_finite(decision, shown);
     let full = d.full(decision);
     let level = l.level;
     let detector = h.detector;
@@ -405,13 +398,10 @@ impl Strand {
     pub fn new() -> Self
         ensures { λ r. ⌜ r ≡ freshOf ⌝ }
     {
-        let level = Level::new();
-        let detector = FeatureDetector::new();
-        let decision = Decision::new();
         Self {
-            level,
-            detector,
-            decision,
+            level: Level::new(),
+            detector: FeatureDetector::new(),
+            decision: Decision::new(),
         }
     }
 
@@ -419,26 +409,22 @@ impl Strand {
     pub fn frame(self, xs: &[f32], settings: VadSettings) -> Framed
         ensures { λ r. ⌜ r ≡ frameOf self (now (xs .entry)) settings ⌝ }
     {
-        let level = self.level;
-        let detector = self.detector;
-        let decision = self.decision;
-        let l = level.frame(xs);
-        let h = detector.frame(xs);
-        finish(decision, l, h, settings)
+        finish(
+            self.decision,
+            self.level.frame(xs),
+            self.detector.frame(xs),
+            settings,
+        )
     }
 
     // A new strand with the counts of this one; speech that was active counts as ended.
     pub fn reset(self) -> Strand
         ensures { λ r. ⌜ r ≡ resetOf self ⌝ }
     {
-        let old = self.decision;
-        let level = Level::new();
-        let detector = FeatureDetector::new();
-        let decision = old.stopped();
         Strand {
-            level,
-            detector,
-            decision,
+            level: Level::new(),
+            detector: FeatureDetector::new(),
+            decision: self.decision.stopped(),
         }
     }
 }

@@ -8,11 +8,11 @@ use Rattle.chain.proofs.finished.Tie as tie
 strand-requires : tie.Need-strand-requires
 strand-requires c κs = search needs
 
-strand-requires-2 : tie.Need-strand-requires-2
-strand-requires-2 c κs = search needs
-
 finish-requires : tie.Need-finish-requires
 finish-requires c κs = search needs
+
+strand-requires-2 : tie.Need-strand-requires-2
+strand-requires-2 c κs = search needs
 
 finish-requires-2 : tie.Need-finish-requires-2
 finish-requires-2 c κs = search needs
@@ -23,7 +23,13 @@ finish-requires-3 c κs = search needs
 returns : tie.Need-returns
 unfolding finishedOf
 returns c =
-    simp (sym (c .before .before .before .before .before .before .before .before .before .strand .ensures), sym (c .before .before .before .before .before .before .before .before .strand2 .ensures), sym (c .before .before .before .finish .ensures), sym (c .before .finish2 .ensures), sym (c .finish3 .ensures))
+    simp (
+      sym (c .before .before .before .before .before .strand .ensures),
+      sym (c .before .before .before .before .finish .ensures),
+      sym (c .before .before .before .strand2 .ensures),
+      sym (c .before .finish2 .ensures),
+      sym (c .finish3 .ensures),
+    )
 
 pub finished-spec : {M : Type 1} → statement M
-finished-spec = tie.close (tie.spec strand-requires strand-requires-2 finish-requires finish-requires-2 finish-requires-3 returns)
+finished-spec = tie.close (tie.spec strand-requires finish-requires strand-requires-2 finish-requires-2 finish-requires-3 returns)

@@ -1,8 +1,9 @@
 -- `all_frames` is safe and ends: less than a frame is held from read to read. The measure is the number of turns that are left.
 use Prim.Native.Nat.{_<_}
 use native.Mathlib.Omega.{arith}
-use Rattle.duckline.proofs.Ran.{read-held, read-end}
 use borrow.Author.Needs.{needs}
+use Rattle.ducklines.proofs.Ran.{read-held, read-end}
+use Rattle.program.proofs.Brought.{brought}
 use Rattle.duckline.proofs.all_frames.Statement.{statement}
 use Rattle.duckline.proofs.all_frames.Tie as tie
 
@@ -21,17 +22,28 @@ loop-holds c = search needs
 read-requires : tie.Need-read-requires Inv-loop μ-loop
 read-requires c κs = search needs
 
+enum-known-got : tie.Need-enum-known-got Inv-loop μ-loop
+enum-known-got c = search needs
+
+stopped-requires : tie.Need-stopped-requires Inv-loop μ-loop
+stopped-requires c κs = search needs
+
 returns : tie.Need-returns Inv-loop μ-loop
 returns c = search needs
 
 add-after-read : tie.Need-add-after-read Inv-loop μ-loop
-add-after-read c = search needs
+add-after-read c = omega (arith, brought _ _ _ _ (c .before .before .got .given .1) (c .before .before .before .before .read .ensures .0))
 
 after-read-requires : tie.Need-after-read-requires Inv-loop μ-loop
-after-read-requires c κs = search needs
+after-read-requires c κs = omega (arith, brought _ _ _ _ (c .before .before .before .got .given .1) (c .before .before .before .before .before .read .ensures .0))
 
 write-requires : tie.Need-write-requires Inv-loop μ-loop
-write-requires c κs = omega (arith, read-end _ _ _ _ _ (c .before .before .after-read .ensures))
+write-requires c κs =
+    omega (
+      arith,
+      read-end _ _ _ _ _ (c .before .before .after-read .ensures),
+      brought _ _ _ _ (c .before .before .before .before .before .before .got .given .1) (c .before .before .before .before .before .before .before .before .read .ensures .0),
+    )
 
 sub-turns : tie.Need-sub-turns Inv-loop μ-loop
 sub-turns c = search needs
@@ -57,6 +69,8 @@ all-frames-spec =
     fresh-run-requires
     loop-holds
     read-requires
+    enum-known-got
+    stopped-requires
     returns
     add-after-read
     after-read-requires

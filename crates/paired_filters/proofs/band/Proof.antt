@@ -16,19 +16,19 @@ use Rattle.paired_filters.proofs.band.Statement.{statement}
 use Rattle.paired_filters.proofs.band.Tie as tie
 
 abbrev Inv-loop : tie.InvT-loop
-Inv-loop xs ys out₀ also₀ k₀ b₀ i₀ out also k b i =
+Inv-loop xs ys key-pitch₀ bed-pitch₀ k₀ b₀ i₀ key-pitch bed-pitch k b i =
     (length xs ≡ 480)
     × (length ys ≡ 480)
-    × (length out ≡ 480)
-    × (length also ≡ 480)
+    × (length key-pitch ≡ 480)
+    × (length bed-pitch ≡ 480)
     × (i ≤ 480)
     × (foldl stepOf k (drop i xs) ≡ foldl stepOf k₀ xs)
     × (foldl stepOf b (drop i ys) ≡ foldl stepOf b₀ ys)
-    × (take i out ++ outputsOf k (drop i xs) ≡ outputsOf k₀ xs)
-    × (take i also ++ outputsOf b (drop i ys) ≡ outputsOf b₀ ys)
+    × (take i key-pitch ++ outputsOf k (drop i xs) ≡ outputsOf k₀ xs)
+    × (take i bed-pitch ++ outputsOf b (drop i ys) ≡ outputsOf b₀ ys)
 
 abbrev μ-loop : tie.MeasureT-loop
-μ-loop xs ys out₀ also₀ k₀ b₀ i₀ out also k b i = 480 - i
+μ-loop xs ys key-pitch₀ bed-pitch₀ k₀ b₀ i₀ key-pitch bed-pitch k b i = 480 - i
 
 loop-holds : tie.Need-loop-holds Inv-loop μ-loop
 loop-holds c =
@@ -53,17 +53,17 @@ shared-slice-read-step-2 c = search needs
 step-requires-2 : tie.Need-step-requires-2 Inv-loop μ-loop
 step-requires-2 c κs = search needs
 
-mul-out : tie.Need-mul-out Inv-loop μ-loop
-mul-out c = search needs
+mul-key-pitch : tie.Need-mul-key-pitch Inv-loop μ-loop
+mul-key-pitch c = search needs
 
-slice-write-out : tie.Need-slice-write-out Inv-loop μ-loop
-slice-write-out c = search needs
+slice-write-key-pitch : tie.Need-slice-write-key-pitch Inv-loop μ-loop
+slice-write-key-pitch c = search needs
 
-mul-also : tie.Need-mul-also Inv-loop μ-loop
-mul-also c = search needs
+mul-bed-pitch : tie.Need-mul-bed-pitch Inv-loop μ-loop
+mul-bed-pitch c = search needs
 
-slice-write-also : tie.Need-slice-write-also Inv-loop μ-loop
-slice-write-also c = search needs
+slice-write-bed-pitch : tie.Need-slice-write-bed-pitch Inv-loop μ-loop
+slice-write-bed-pitch c = search needs
 
 add-i : tie.Need-add-i Inv-loop μ-loop
 add-i c = search needs
@@ -84,8 +84,8 @@ loop-again c =
       omega arith,
       fold-turn stepOf nan (l .k) (s .result) (a .xs .now) (l .i) (s .ensures) (omega arith) ∙ l .inv .5,
       fold-turn stepOf nan (l .b) (r .result) (a .ys .now) (l .i) (r .ensures) (omega arith) ∙ l .inv .6,
-      outputs-turn (l .k) (s .result) (a .xs .now) (l .out) (l .i) (s .ensures) (omega arith) (omega arith) ∙ l .inv .7,
-      outputs-turn (l .b) (r .result) (a .ys .now) (l .also) (l .i) (r .ensures) (omega arith) (omega arith) ∙ l .inv .8,
+      outputs-turn (l .k) (s .result) (a .xs .now) (l .key-pitch) (l .i) (s .ensures) (omega arith) (omega arith) ∙ l .inv .7,
+      outputs-turn (l .b) (r .result) (a .ys .now) (l .bed-pitch) (l .i) (r .ensures) (omega arith) (omega arith) ∙ l .inv .8,
     )
 
 pairs-requires : tie.Need-pairs-requires Inv-loop μ-loop
@@ -105,8 +105,8 @@ returns c =
     let k = fold-end stepOf (l .k) (a .xs .now) (l .i) (omega arith) ∙ l .inv .5 in
     let b = fold-end stepOf (l .b) (a .ys .now) (l .i) (omega arith) ∙ l .inv .6 in (
       c .pairs .ensures ∙ (λ i. bandedPairs (record { key = k i; bed = b i })),
-      all-stored (l .k) (a .xs .now) (l .out) (outputsOf (a .key) (a .xs .now)) (l .i) (omega arith) (omega arith) (l .inv .7),
-      all-stored (l .b) (a .ys .now) (l .also) (outputsOf (a .bed) (a .ys .now)) (l .i) (omega arith) (omega arith) (l .inv .8),
+      all-stored (l .k) (a .xs .now) (l .key-pitch) (outputsOf (a .key) (a .xs .now)) (l .i) (omega arith) (omega arith) (l .inv .7),
+      all-stored (l .b) (a .ys .now) (l .bed-pitch) (outputsOf (a .bed) (a .ys .now)) (l .i) (omega arith) (omega arith) (l .inv .8),
     )
 
 pub band-spec : {M : Type 1} → statement M
@@ -122,10 +122,10 @@ band-spec =
     mul-step-2
     shared-slice-read-step-2
     step-requires-2
-    mul-out
-    slice-write-out
-    mul-also
-    slice-write-also
+    mul-key-pitch
+    slice-write-key-pitch
+    mul-bed-pitch
+    slice-write-bed-pitch
     add-i
     loop-less
     loop-again

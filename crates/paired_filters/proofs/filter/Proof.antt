@@ -17,21 +17,21 @@ use Rattle.paired_filters.proofs.filter.Statement.{statement}
 use Rattle.paired_filters.proofs.filter.Tie as tie
 
 abbrev Inv-loop : tie.InvT-loop
-Inv-loop xs ys out₀ also₀ v₀ w₀ p₀ q₀ i₀ out also v w p q i =
+Inv-loop xs ys key-pitch₀ bed-pitch₀ v₀ w₀ p₀ q₀ i₀ key-pitch bed-pitch v w p q i =
     (length xs ≡ 480)
     × (length ys ≡ 480)
-    × (length out ≡ 480)
-    × (length also ≡ 480)
+    × (length key-pitch ≡ 480)
+    × (length bed-pitch ≡ 480)
     × (i ≤ 480)
     × (foldl weighing.stepOf v (drop i xs) ≡ foldl weighing.stepOf v₀ xs)
     × (foldl weighing.stepOf w (drop i ys) ≡ foldl weighing.stepOf w₀ ys)
     × (foldl stepOf p (drop i xs) ≡ foldl stepOf p₀ xs)
     × (foldl stepOf q (drop i ys) ≡ foldl stepOf q₀ ys)
-    × (take i out ++ outputsOf p (drop i xs) ≡ outputsOf p₀ xs)
-    × (take i also ++ outputsOf q (drop i ys) ≡ outputsOf q₀ ys)
+    × (take i key-pitch ++ outputsOf p (drop i xs) ≡ outputsOf p₀ xs)
+    × (take i bed-pitch ++ outputsOf q (drop i ys) ≡ outputsOf q₀ ys)
 
 abbrev μ-loop : tie.MeasureT-loop
-μ-loop xs ys out₀ also₀ v₀ w₀ p₀ q₀ i₀ out also v w p q i = 480 - i
+μ-loop xs ys key-pitch₀ bed-pitch₀ v₀ w₀ p₀ q₀ i₀ key-pitch bed-pitch v w p q i = 480 - i
 
 loop-holds : tie.Need-loop-holds Inv-loop μ-loop
 loop-holds c =
@@ -62,17 +62,17 @@ step-requires-3 c κs = search needs
 step-requires-4 : tie.Need-step-requires-4 Inv-loop μ-loop
 step-requires-4 c κs = search needs
 
-mul-out : tie.Need-mul-out Inv-loop μ-loop
-mul-out c = search needs
+mul-key-pitch : tie.Need-mul-key-pitch Inv-loop μ-loop
+mul-key-pitch c = search needs
 
-slice-write-out : tie.Need-slice-write-out Inv-loop μ-loop
-slice-write-out c = search needs
+slice-write-key-pitch : tie.Need-slice-write-key-pitch Inv-loop μ-loop
+slice-write-key-pitch c = search needs
 
-mul-also : tie.Need-mul-also Inv-loop μ-loop
-mul-also c = search needs
+mul-bed-pitch : tie.Need-mul-bed-pitch Inv-loop μ-loop
+mul-bed-pitch c = search needs
 
-slice-write-also : tie.Need-slice-write-also Inv-loop μ-loop
-slice-write-also c = search needs
+slice-write-bed-pitch : tie.Need-slice-write-bed-pitch Inv-loop μ-loop
+slice-write-bed-pitch c = search needs
 
 add-i : tie.Need-add-i Inv-loop μ-loop
 add-i c = search needs
@@ -91,15 +91,15 @@ loop-again c =
     let b = c .step4 in (
       l .inv .0,
       l .inv .1,
-      length-set (l .out) (l .i) (k .result .pitch) ∙ l .inv .2,
-      length-set (l .also) (l .i) (b .result .pitch) ∙ l .inv .3,
+      length-set (l .key-pitch) (l .i) (k .result .pitch) ∙ l .inv .2,
+      length-set (l .bed-pitch) (l .i) (b .result .pitch) ∙ l .inv .3,
       omega (arith, less),
       fold-turn weighing.stepOf nan (l .v) (v .result) (a .xs .now) (l .i) (v .ensures) (omega (arith, less, l .inv .0)) ∙ l .inv .5,
       fold-turn weighing.stepOf nan (l .w) (w .result) (a .ys .now) (l .i) (w .ensures) (omega (arith, less, l .inv .1)) ∙ l .inv .6,
       fold-turn stepOf nan (l .p) (k .result) (a .xs .now) (l .i) (k .ensures) (omega (arith, less, l .inv .0)) ∙ l .inv .7,
       fold-turn stepOf nan (l .q) (b .result) (a .ys .now) (l .i) (b .ensures) (omega (arith, less, l .inv .1)) ∙ l .inv .8,
-      outputs-turn (l .p) (k .result) (a .xs .now) (l .out) (l .i) (k .ensures) (omega (arith, less, l .inv .0)) (omega (arith, less, l .inv .2)) ∙ l .inv .9,
-      outputs-turn (l .q) (b .result) (a .ys .now) (l .also) (l .i) (b .ensures) (omega (arith, less, l .inv .1)) (omega (arith, less, l .inv .3)) ∙ l .inv .10,
+      outputs-turn (l .p) (k .result) (a .xs .now) (l .key-pitch) (l .i) (k .ensures) (omega (arith, less, l .inv .0)) (omega (arith, less, l .inv .2)) ∙ l .inv .9,
+      outputs-turn (l .q) (b .result) (a .ys .now) (l .bed-pitch) (l .i) (b .ensures) (omega (arith, less, l .inv .1)) (omega (arith, less, l .inv .3)) ∙ l .inv .10,
     )
 
 pairs-requires : tie.Need-pairs-requires Inv-loop μ-loop
@@ -126,8 +126,8 @@ returns c =
     let e = c .before .pairs .ensures ∙ (λ i. weighedPairs (record { key = v i; bed = w i })) in
     let f = c .pairs2 .ensures ∙ (λ i. bandedPairs (record { key = k i; bed = b i })) in (
       λ i. record { weighed = e i; banded = f i },
-      all-stored (l .p) (a .xs .now) (l .out) (outputsOf (a .banded .key) (a .xs .now)) (l .i) (omega arith) (omega arith) (l .inv .9),
-      all-stored (l .q) (a .ys .now) (l .also) (outputsOf (a .banded .bed) (a .ys .now)) (l .i) (omega arith) (omega arith) (l .inv .10),
+      all-stored (l .p) (a .xs .now) (l .key-pitch) (outputsOf (a .banded .key) (a .xs .now)) (l .i) (omega arith) (omega arith) (l .inv .9),
+      all-stored (l .q) (a .ys .now) (l .bed-pitch) (outputsOf (a .banded .bed) (a .ys .now)) (l .i) (omega arith) (omega arith) (l .inv .10),
     )
 
 pub filter-spec : {M : Type 1} → statement M
@@ -145,10 +145,10 @@ filter-spec =
     step-requires-2
     step-requires-3
     step-requires-4
-    mul-out
-    slice-write-out
-    mul-also
-    slice-write-also
+    mul-key-pitch
+    slice-write-key-pitch
+    mul-bed-pitch
+    slice-write-bed-pitch
     add-i
     loop-less
     loop-again

@@ -21,7 +21,7 @@ returns : tie.Need-returns
 unfolding stateOf
 returns c =
     simp (
-      sym (c .before .before .before .before .before .before .speech-level .ensures),
+      sym (c .before .before .before .speech-level .ensures),
       sym (c .before .before .tenths .ensures),
       sym (c .before .tenths2 .ensures),
       sym (c .rounded .ensures),

@@ -26,14 +26,14 @@ voicing-requires c κs = search needs
 shown-requires : tie.Need-shown-requires
 shown-requires c κs = search needs
 
-sound-requires : tie.Need-sound-requires
-sound-requires c κs = search needs
+numbers-finite-requires : tie.Need-numbers-finite-requires
+numbers-finite-requires c κs = search needs
 
 returns : tie.Need-returns
 returns c =
-    let a = c .before .before .before .before .before .before .before .before .before .before .before .before .before .before .before .args in
-    finished (a .self) (a .bands) (a .ys .now) _ _ _ _ _ _ _ _ (c .before .before .before .before .before .before .before .before .before .before .before .before .before .powers .ensures) (c .before .before .before .before .before .before .before .before .before .before .before .before .decimate .ensures) (c .before .before .before .before .before .before .before .before .before .before .keep .ensures)
-    (c .before .before .before .before .before .before .before .before .floor2 .ensures) (c .before .before .before .before .before .before .modulation .ensures) (c .before .before .before .before .before .voicing .ensures) (c .before .before .before .before .shown .ensures) (c .before .before .sound .ensures)
+    let a = c .before .before .before .before .before .before .before .before .before .before .before .before .args in
+    finished (a .self) (a .bands) (a .ys .now) _ _ _ _ _ _ _ _ (c .before .before .before .before .before .before .before .before .before .before .powers .ensures) (c .before .before .before .before .before .before .before .before .before .decimate .ensures) (c .before .before .before .before .before .before .before .before .keep .ensures)
+    (c .before .before .before .before .before .before .before .floor .ensures) (c .before .before .before .before .before .before .modulation .ensures) (c .before .before .before .before .before .voicing .ensures) (c .before .before .before .before .shown .ensures) (c .before .before .numbers-finite .ensures)
 
 pub finish-spec : {M : Type 1} → statement M
-finish-spec = tie.close (tie.spec powers-requires decimate-requires keep-requires floor-requires modulation-requires voicing-requires shown-requires sound-requires returns)
+finish-spec = tie.close (tie.spec powers-requires decimate-requires keep-requires floor-requires modulation-requires voicing-requires shown-requires numbers-finite-requires returns)

@@ -43,10 +43,10 @@ finish-requires c κs = search needs
 returns : tie.Need-returns
 unfolding frameOf
 returns c =
-    let a = c .before .before .before .before .before .before .before .before .before .before .before .args in
+    let a = c .before .before .before .before .before .before .before .before .before .before .args in
     let xs = a .xs .now in
-    let x = c .before .before .before .before .before .before .before .before .before .samples in
-    let places = c .before .before .before .before .before .before .before .before .no-samples in
+    let x = c .before .before .before .before .before .before .before .before .samples in
+    let places = c .before .before .before .before .before .before .before .no-samples in
     let s = c .before .before .before .before .before .before .begin in
     let run = c .before .before .before .run in
     let size : length (places .result) ≡ 480 = ap length (places .ensures) ∙ no-samples-length in

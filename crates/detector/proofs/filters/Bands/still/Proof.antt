@@ -34,7 +34,7 @@ same-requires-4 c κs = search needs
 returns : tie.Need-returns
 unfolding stillOf
 returns c =
-    let d = c .before .before .before .before .before .before in
+    let d = c .before .before .before .before in
     let f = c .before .before .before .same in
     let a = c .before .before .same2 in
     let b = c .before .same3 in

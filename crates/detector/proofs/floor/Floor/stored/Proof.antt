@@ -9,13 +9,13 @@ use Rattle.detector.proofs.floor.Floor.stored.Tie as tie
 sub-if1 : tie.Need-sub-if1
 sub-if1 c = search needs
 
-add-t10 : tie.Need-add-t10
-add-t10 c = search needs
+add-t8 : tie.Need-add-t8
+add-t8 c = search needs
 
 returns : tie.Need-returns
 unfolding storedOf
 returns c =
-    simp (lt-ltb _ _ (c .if1 .taken))
+    simp (lt-ltb _ _ (c .before .if1 .taken))
 
 push-requires : tie.Need-push-requires
 push-requires c κs = search needs
@@ -29,4 +29,4 @@ returns-2 c =
     )
 
 pub stored-spec : {M : Type 1} → statement M
-stored-spec = tie.close (tie.spec sub-if1 add-t10 returns push-requires returns-2)
+stored-spec = tie.close (tie.spec sub-if1 add-t8 returns push-requires returns-2)

@@ -1,0 +1,69 @@
+-- What duckline does with bytes that it has read: frames one after the other, their lines, and what is left. Definitions only.
+use Prim.Native.Nat.{ℕ, zero, suc, _+_, _/_, _%_, _^_}
+use mathlib.Core.List.{List, [], _++_}
+use lib.Ieee.{Float}
+use lib.ListN.{length}
+use Rattle.blocks.specs.Lists.{laid}
+use Rattle.chain.specs.declared.Chain.{Chain}
+use Rattle.chain.specs.Chain.{freshOf, frameOf}
+use Rattle.frame_bytes.specs.Bytes.{frameBytes, keyAt, bedAt, keptOf}
+use Rattle.line_text.specs.Line.{lineOf, putAt}
+use Rattle.ducklines.specs.declared.Run.{Run}
+use Rattle.ducklines.specs.declared.Next.{Next}
+
+-- a chain, the number of the frame that comes next, and text
+pub record Ran : Type 0 where
+  pub chain : Chain
+  pub number : ℕ
+  pub text : List ℕ
+
+-- one frame more, and its line
+abbrev pub heardOf : Ran → List Float → List Float → Ran
+heardOf r key bed =
+    let f = frameOf (r .chain) key bed in
+    record { chain = f .chain; number = (r .number + 1) % 2 ^ 64; text = r .text ++ lineOf (r .number) (f .outcome) }
+
+-- the first k frames of some bytes, on a chain, the first of them with number n
+unfoldable pub ranOf : Chain → ℕ → List ℕ → ℕ → Ran
+ranOf c n b zero = record { chain = c; number = n; text = [] }
+ranOf c n b (suc k) = heardOf (ranOf c n b k) (keyAt b k) (bedAt b k)
+
+-- ---- a run, as the program keeps it
+
+-- a fresh chain, and frames are counted from 1
+abbrev pub freshRun : Run
+freshRun = record { chain = freshOf; number = 1; end = 0 }
+
+-- a run and its lent text
+pub record Written : Type 0 where
+  pub run : Run
+  pub bytes : List ℕ
+
+-- frame k of some bytes; its line is put behind those of the frames before it
+unfoldable pub frameIn : Run → List ℕ → ℕ → List ℕ → Written
+frameIn s b k t =
+    let f = frameOf (s .chain) (keyAt b k) (bedAt b k) in
+    let p = putAt t (s .end) (lineOf (s .number) (f .outcome)) in
+    record { run = record { chain = f .chain; number = (s .number + 1) % 2 ^ 64; end = p .end }; bytes = p .bytes }
+
+-- the first k frames of some bytes; their lines are put at the start
+unfoldable pub framesIn : Run → List ℕ → ℕ → List ℕ → Written
+framesIn s b k t =
+    let r = ranOf (s .chain) (s .number) b k in
+    record { run = record { chain = r .chain; number = r .number; end = length (r .text) }; bytes = laid t 0 (r .text) }
+
+-- ---- a read
+
+-- after a read: what comes next, the buffer and the text
+pub record AfterRead : Type 0 where
+  pub next : Next
+  pub buffer : List ℕ
+  pub text : List ℕ
+
+-- n bytes are held: the whole frames among them get their lines, and what is left behind them is held
+unfoldable pub afterReadIn : Run → List ℕ → ℕ → List ℕ → AfterRead
+afterReadIn s b n t =
+    let k = n / frameBytes in
+    let w = framesIn s b k t in
+    let h = keptOf b k n in
+    record { next = record { run = w .run; held = h .held }; buffer = h .bytes; text = w .bytes }

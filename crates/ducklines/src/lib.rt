@@ -1,0 +1,88 @@
+// What bytes that were read lead to: the frames among them run through a chain, and each gets a line (specs/Frames.antt). That the text doesn't
+// depend on how the input is cut into reads is promised by `any_reads` (specs/Reads.antt).
+ghost use mathlib.Core.Path.{_≡_};
+ghost use Prim.Native.Nat.{_+_, _≤_, _<_};
+ghost use Rattle.frame_bytes.specs.Bytes.{bufferBytes};
+ghost use Rattle.line_text.specs.Line.{textBytes};
+ghost use Rattle.ducklines.specs.Frames.{freshRun, frameIn, framesIn, afterReadIn};
+ghost use Rattle.ducklines.specs.Reads.{AnyReads};
+use chain::Chain;
+use frame_bytes::BUFFER;
+use frame_bytes::FRAME;
+use line_text::TEXT;
+
+// A chain, the number of the frame that comes next, and the end of the text of the frames before it.
+pub struct Run {
+    pub chain: Chain,
+    pub number: u64,
+    pub end: usize,
+}
+
+// A fresh chain; frames are counted from 1.
+pub fn fresh_run() -> Run
+    ensures { λ r. ⌜ r ≡ freshRun ⌝ }
+{
+    Run {
+        chain: Chain::new(),
+        number: 1,
+        end: 0,
+    }
+}
+
+// Frame i of the buffer; its line goes behind those of the frames before it.
+fn frame(run: Run, buffer: &[u8; BUFFER], i: usize, text: &mut [u8; TEXT]) -> Run
+    requires { ⌜ (i < 16) × (run .end + 64 ≤ textBytes) ⌝ }
+    ensures { λ r. ⌜ record { run = r; bytes = now (text .exit) } ≡ frameIn run (now (buffer .entry)) i (now (text .entry)) ⌝ }
+{
+    let key = frame_bytes::key(buffer, i);
+    let bed = frame_bytes::bed(buffer, i);
+    let f = run.chain.frame(&key, &bed);
+    let outcome = f.outcome;
+    let chain = f.chain;
+    Run {
+        chain,
+        number: std::num::wrapping_add_u64(run.number, 1),
+        end: line_text::frame(text, run.end, run.number, outcome),
+    }
+}
+
+// The frames at the start of the buffer; their lines, at the start of the text.
+fn frames(run: Run, buffer: &[u8; BUFFER], count: usize, text: &mut [u8; TEXT]) -> Run
+    requires { ⌜ count ≤ 16 ⌝ }
+    ensures { λ r. ⌜ record { run = r; bytes = now (text .exit) } ≡ framesIn run (now (buffer .entry)) count (now (text .entry)) ⌝ }
+{
+    let mut s = run;
+    s.end = 0;
+    let mut i: usize = 0;
+    while i < count {
+        s = frame(s, buffer, i, text);
+        i += 1;
+    }
+    s
+}
+
+// A run after a read, and how many bytes of the buffer are left.
+pub struct Next {
+    pub run: Run,
+    pub held: usize,
+}
+
+// What a read leads to: `held` bytes are at the start of the buffer. The whole frames among them get their lines, and what is left goes to the
+// start. The caller shows that the buffer holds so many.
+pub fn after_read(run: Run, buffer: &mut [u8; BUFFER], held: usize, text: &mut [u8; TEXT]) -> Next
+    requires { ⌜ held ≤ bufferBytes ⌝ }
+    ensures { λ r. ⌜ record { next = r; buffer = now (buffer .exit); text = now (text .exit) } ≡ afterReadIn run (now (buffer .entry)) held (now (text .entry)) ⌝ }
+{
+    let count = held / FRAME;
+    let next = frames(run, buffer, count, text);
+    let left = frame_bytes::keep(buffer, count, held);
+    Next {
+        run: next,
+        held: left,
+    }
+}
+
+// The text doesn't depend on how many bytes a read brings. The function does nothing: its contract is the promise.
+pub fn any_reads()
+    ensures { λ _. ⌜ AnyReads ⌝ }
+{}

@@ -1,0 +1,88 @@
+-- `keep` meets its contract: the first k of the bytes that are left are laid, and those from place k on are as they were.
+use Prim.Native.Nat.{_+_, _-_, _*_, _≤_}
+use native.Mathlib.Omega.{arith}
+use mathlib.Core.Path.{_≡_, refl}
+use lib.ListN.{length, take, drop}
+use borrow.Author.Needs.{needs}
+use Rattle.blocks.specs.Lists.{Laid}
+use Rattle.blocks.proofs.Lists.{none-yet, turn-first, finish, laid-length}
+use Rattle.detector.proofs.Lay.{rest-turn}
+use Rattle.frame_bytes.proofs.Kept.{kept-byte, kept-length}
+use Rattle.frame_bytes.specs.Bytes.{keptOf}
+use Rattle.frame_bytes.proofs.keep.Statement.{statement}
+use Rattle.frame_bytes.proofs.keep.Tie as tie
+
+abbrev Inv-loop : tie.InvT-loop
+Inv-loop buffer₀ count held first left k₀ buffer k =
+    (k ≤ left) × (first + left ≤ length buffer₀) × Laid buffer₀ 0 (take k (take left (drop first buffer₀))) buffer × (drop k buffer ≡ drop k buffer₀)
+
+abbrev μ-loop : tie.MeasureT-loop
+μ-loop buffer₀ count held first left k₀ buffer k = left - k
+
+mul-first : tie.Need-mul-first Inv-loop μ-loop
+mul-first c = search needs
+
+sub-left : tie.Need-sub-left Inv-loop μ-loop
+sub-left c = search needs
+
+loop-holds : tie.Need-loop-holds Inv-loop μ-loop
+loop-holds c = (omega arith, search needs, none-yet _ _, refl)
+
+add-buffer : tie.Need-add-buffer Inv-loop μ-loop
+add-buffer c = search needs
+
+slice-read-buffer : tie.Need-slice-read-buffer Inv-loop μ-loop
+slice-read-buffer c = omega (arith, laid-length (c .before .before .loop .inv .2))
+
+slice-write-buffer : tie.Need-slice-write-buffer Inv-loop μ-loop
+slice-write-buffer c = omega (arith, laid-length (c .before .before .loop .inv .2))
+
+add-k : tie.Need-add-k Inv-loop μ-loop
+add-k c = search needs
+
+loop-less : tie.Need-loop-less Inv-loop μ-loop
+loop-less c = search needs
+
+loop-again : tie.Need-loop-again Inv-loop μ-loop
+loop-again c =
+    let l = c .before .before .loop in
+    let a = c .before .before .before .args in
+    let b = a .buffer .now in
+    let first = a .count * 3840 in
+    let left = a .held - first in (
+      omega arith,
+      l .inv .1,
+      turn-first (take left (drop first b)) (l .inv .2) (omega (arith, kept-length b first left (omega arith))) (kept-byte (l .buffer) b (l .k) first left (l .inv .3) (omega arith)),
+      rest-turn (l .buffer) b _ (l .k) (l .inv .3),
+    )
+
+same-length : tie.Need-same-length Inv-loop μ-loop
+same-length c = laid-length (c .before .loop .inv .2)
+
+returns : tie.Need-returns Inv-loop μ-loop
+unfolding keptOf
+returns c =
+    let l = c .before .loop in
+    let a = c .before .before .args in
+    let b = a .buffer .now in
+    let first = a .count * 3840 in
+    let left = a .held - first in
+    λ i. record { bytes = finish {k = l .k} (take left (drop first b)) (l .inv .2) (omega (arith, kept-length b first left (omega arith))) .is i; held = left }
+
+pub keep-spec : {M : Type 1} → statement M
+keep-spec =
+    tie.close
+    (tie.spec
+    Inv-loop
+    μ-loop
+    mul-first
+    sub-left
+    loop-holds
+    add-buffer
+    slice-read-buffer
+    slice-write-buffer
+    add-k
+    loop-less
+    loop-again
+    same-length
+    returns)
