@@ -11,12 +11,12 @@ use Rattle.blocks.specs.Lists.{table, Words, Bytes}
 use Rattle.blocks.specs.Words.{word2, word4, word8, wordAt, bytes2, bytes4, bytes8, bytesOf}
 use Rattle.blocks.proofs.Lists.{length-table, getD-table}
 
--- one place and two places further
-pub next-byte : (b : List ℕ) (i k : ℕ) → getD b (i + (k + 1)) 0 ≡ getD b (i + k + 1) 0
-next-byte b i k = let e : i + (k + 1) ≡ i + k + 1 = omega arith in rw e
-
-pub next-half : (b : List ℕ) (i k : ℕ) → word2 b (i + (k + 2)) ≡ word2 b (i + k + 2)
-next-half b i k = let e : i + (k + 2) ≡ i + k + 2 = omega arith in ap (word2 b) e
+-- the bytes from place i + k on, one after another
+pub next-bytes : (b : List ℕ) (i k : ℕ) → (getD b (i + (k + 1)) 0 ≡ getD b (i + k + 1) 0) × (getD b (i + (k + 2)) 0 ≡ getD b (i + k + 2) 0) × (getD b (i + (k + 3)) 0 ≡ getD b (i + k + 2 + 1) 0)
+next-bytes b i k = (at (i + (k + 1)) (i + k + 1) (omega arith), at (i + (k + 2)) (i + k + 2) (omega arith), at (i + (k + 3)) (i + k + 2 + 1) (omega arith))
+  where
+    at : (m n : ℕ) → m ≡ n → getD b m 0 ≡ getD b n 0
+    at m n e = ap (λ (j : ℕ). getD b j 0) e
 
 pub length8 : (w : ℕ) → length (bytes8 w) ≡ 8
 unfolding bytes8 bytes4

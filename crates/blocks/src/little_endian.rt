@@ -28,19 +28,12 @@ fn byte(b: &[u8], i: usize, k: usize) -> u32
     wide(b[i + k])
 }
 
-// Two and four bytes from place i + k on, of which some may be missing.
-fn part2(b: &[u8], i: usize, k: usize) -> u32
-    requires { ⌜ k < 8 ⌝ }
-    ensures { λ r. ⌜ (r ≡ word2 (now (b .entry)) (i + k)) × (r < 65536) ⌝ }
-{
-    byte(b, i, k) + byte(b, i, k + 1) * 256
-}
-
+// Four bytes from place i + k on, of which some may be missing.
 fn part4(b: &[u8], i: usize, k: usize) -> u32
     requires { ⌜ k ≤ 4 ⌝ }
     ensures { λ r. ⌜ r ≡ word4 (now (b .entry)) (i + k) ⌝ }
 {
-    part2(b, i, k) + part2(b, i, k + 2) * 65536
+    byte(b, i, k) + byte(b, i, k + 1) * 256 + (byte(b, i, k + 2) + byte(b, i, k + 3) * 256) * 65536
 }
 
 // Two and four bytes from place i on, which are all there. Of halves the compiler makes one read.

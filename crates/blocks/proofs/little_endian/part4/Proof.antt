@@ -1,18 +1,18 @@
 -- `little_endian::part4` meets its contract.
 use native.Mathlib.Omega.{arith}
-use Rattle.blocks.proofs.Bytes.{next-half}
+use Rattle.blocks.proofs.Bytes.{next-bytes}
 use borrow.Author.Needs.{needs}
 use Rattle.blocks.proofs.little_endian.part4.Statement.{statement}
 use Rattle.blocks.proofs.little_endian.part4.Tie as tie
 
-part2-requires : tie.Need-part2-requires
-part2-requires c κs = search needs
+byte-requires : tie.Need-byte-requires
+byte-requires c κs = search needs
 
-add-part2 : tie.Need-add-part2
-add-part2 c = search needs
+add-byte : tie.Need-add-byte
+add-byte c = search needs
 
-part2-requires-2 : tie.Need-part2-requires-2
-part2-requires-2 c κs = search needs
+byte-requires-2 : tie.Need-byte-requires-2
+byte-requires-2 c κs = search needs
 
 mul-result : tie.Need-mul-result
 mul-result c = search needs
@@ -20,9 +20,51 @@ mul-result c = search needs
 add-result : tie.Need-add-result
 add-result c = search needs
 
+add-byte-2 : tie.Need-add-byte-2
+add-byte-2 c = search needs
+
+byte-requires-3 : tie.Need-byte-requires-3
+byte-requires-3 c κs = search needs
+
+add-byte-3 : tie.Need-add-byte-3
+add-byte-3 c = search needs
+
+byte-requires-4 : tie.Need-byte-requires-4
+byte-requires-4 c κs = search needs
+
+mul-result-2 : tie.Need-mul-result-2
+mul-result-2 c = search needs
+
+add-result-2 : tie.Need-add-result-2
+add-result-2 c = search needs
+
+mul-result-3 : tie.Need-mul-result-3
+mul-result-3 c = search needs
+
+add-result-3 : tie.Need-add-result-3
+add-result-3 c = search needs
+
 returns : tie.Need-returns
-returns c = let a = c .before .before .before .args in omega (arith, next-half (a .b .now) (a .i) (a .k))
+returns c =
+    let a = c .before .before .before .before .before .args in
+    let e = next-bytes (a .b .now) (a .i) (a .k) in
+    omega (arith, e .0, e .1, e .2)
 
 pub part4-spec : {M : Type 1} → statement M
 part4-spec =
-    tie.close (tie.spec part2-requires add-part2 part2-requires-2 mul-result add-result returns)
+    tie.close
+    (tie.spec
+    byte-requires
+    add-byte
+    byte-requires-2
+    mul-result
+    add-result
+    add-byte-2
+    byte-requires-3
+    add-byte-3
+    byte-requires-4
+    mul-result-2
+    add-result-2
+    mul-result-3
+    add-result-3
+    returns)
