@@ -12,7 +12,7 @@ use lib.Ieee.{Float, nan}
 use Rattle.float.specs.Arithmetic.{_⊕_, _⊗_, zero64}
 use Rattle.detector.specs.declared.voicing.Eight.{Eight}
 use Rattle.detector.specs.Voicing.{productsFrom, correlationOf}
-use Rattle.detector.specs.EightLags.{Correlations}
+use Rattle.detector.specs.EightLags.{noneSummed, Left, Correlations}
 
 -- nothing is left of the second list
 none-left : (s : Float) (xs ys : List Float) → length ys ≡ 0 → s ≡ productsFrom s xs ys
@@ -29,6 +29,19 @@ one-more s x i j h k = rw (drop-cons x i nan, drop-cons x j nan)
 pub products-start : (x : List Float) (lag : ℕ) → productsFrom zero64 x (drop (0 + lag) x) ≡ correlationOf x lag
 unfolding correlationOf
 products-start x lag = rw zero-add
+
+-- before the first place all products of eight lags are left
+pub left-start : (x : List Float) (lag : ℕ) → Left x lag 0 noneSummed
+left-start x lag = record {
+  left0 = products-start x lag;
+  left1 = products-start x (lag + 1);
+  left2 = products-start x (lag + 2);
+  left3 = products-start x (lag + 3);
+  left4 = products-start x (lag + 4);
+  left5 = products-start x (lag + 5);
+  left6 = products-start x (lag + 6);
+  left7 = products-start x (lag + 7);
+}
 
 -- one product more, of the places i and j = i + lag
 pub products-turn : (s : Float) (x : List Float) (i j lag : ℕ) (e : Float) → j ≡ i + lag → j < length x

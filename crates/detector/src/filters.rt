@@ -147,7 +147,8 @@ impl Bands {
         ensures { λ r. ⌜ (r ≡ quietOf self v (now (xs .entry))) × (T r → Quiet self v (now (xs .entry))) ⌝ }
     {
         if float::all_same(v, xs) {
-            return self.step(v).still(v);
+            let first = self.step(v);
+            return first.still(v);
         }
         false
     }

@@ -15,7 +15,7 @@ ghost use Rattle.detector.specs.Voicing.{
   windowOf,
   voicingOf,
 };
-ghost use Rattle.detector.specs.EightLags.{Correlations};
+ghost use Rattle.detector.specs.EightLags.{noneSummed, Left, Correlations};
 use super::filters::Decimated;
 use super::filters::PITCH_WINDOW;
 
@@ -85,7 +85,7 @@ fn products(sum: f64, x: &[f64], from: usize, lag: usize) -> f64
     s
 }
 
-// The correlations of eight lags.
+// The sums of eight lags.
 struct Eight {
     s0: f64,
     s1: f64,
@@ -97,52 +97,82 @@ struct Eight {
     s7: f64,
 }
 
+impl Eight {
+    // No product yet.
+    fn new() -> Self
+        ensures { λ r. ⌜ r ≡ noneSummed ⌝ }
+    {
+        Self {
+            s0: 0.0,
+            s1: 0.0,
+            s2: 0.0,
+            s3: 0.0,
+            s4: 0.0,
+            s5: 0.0,
+            s6: 0.0,
+            s7: 0.0,
+        }
+    }
+
+    // The products of x[i] more, for the lags lag to lag + 7.
+    fn more(self, x: &[f64], i: usize, lag: usize) -> Eight
+        requires { ⌜ i + lag + 7 < length (now x) ⌝ }
+        ensures { λ r. ⌜ (Left (now (x .entry)) lag i self → Left (now (x .entry)) lag (i + 1) r) ⌝ }
+    {
+        let a = x[i];
+        let j = i + lag;
+        let b0 = x[j];
+        let b1 = x[j + 1];
+        let b2 = x[j + 2];
+        let b3 = x[j + 3];
+        let b4 = x[j + 4];
+        let b5 = x[j + 5];
+        let b6 = x[j + 6];
+        let b7 = x[j + 7];
+        Eight {
+            s0: self.s0 + a * b0,
+            s1: self.s1 + a * b1,
+            s2: self.s2 + a * b2,
+            s3: self.s3 + a * b3,
+            s4: self.s4 + a * b4,
+            s5: self.s5 + a * b5,
+            s6: self.s6 + a * b6,
+            s7: self.s7 + a * b7,
+        }
+    }
+
+    // The products of x[i] and on that only the shorter lags have, one lag after the other.
+    fn rest(self, x: &[f64], i: usize, lag: usize) -> Eight
+        requires { ⌜ i + lag + 7 ≡ length (now x) ⌝ }
+        ensures { λ r. ⌜ (Left (now (x .entry)) lag i self → Correlations (now (x .entry)) lag r) ⌝ }
+    {
+        Eight {
+            s0: products(self.s0, x, i, lag),
+            s1: products(self.s1, x, i, lag + 1),
+            s2: products(self.s2, x, i, lag + 2),
+            s3: products(self.s3, x, i, lag + 3),
+            s4: products(self.s4, x, i, lag + 4),
+            s5: products(self.s5, x, i, lag + 5),
+            s6: products(self.s6, x, i, lag + 6),
+            s7: self.s7,
+        }
+    }
+}
+
 // The correlations for the lags lag to lag + 7 in one loop, of which the processor computes two at once. The loop goes as far as the longest lag
-// does; what the shorter ones have beyond it follows one lag after the other.
+// does.
 fn eight_lags(x: &[f64], lag: usize) -> Eight
     requires { ⌜ lag + 7 ≤ length (now x) ⌝ }
     ensures { λ r. ⌜ Correlations (now (x .entry)) lag r ⌝ }
 {
-    let mut s0 = 0.0;
-    let mut s1 = 0.0;
-    let mut s2 = 0.0;
-    let mut s3 = 0.0;
-    let mut s4 = 0.0;
-    let mut s5 = 0.0;
-    let mut s6 = 0.0;
-    let mut s7 = 0.0;
     let n = x.len() - lag - 7;
+    let mut e = Eight::new();
     let mut i = 0;
     while i < n {
-        let a = x[i];
-        let j = i + lag;
-        s0 = s0 + a * x[j];
-        s1 = s1 + a * x[j + 1];
-        s2 = s2 + a * x[j + 2];
-        s3 = s3 + a * x[j + 3];
-        s4 = s4 + a * x[j + 4];
-        s5 = s5 + a * x[j + 5];
-        s6 = s6 + a * x[j + 6];
-        s7 = s7 + a * x[j + 7];
+        e = e.more(x, i, lag);
         i += 1;
     }
-    s0 = products(s0, x, i, lag);
-    s1 = products(s1, x, i, lag + 1);
-    s2 = products(s2, x, i, lag + 2);
-    s3 = products(s3, x, i, lag + 3);
-    s4 = products(s4, x, i, lag + 4);
-    s5 = products(s5, x, i, lag + 5);
-    s6 = products(s6, x, i, lag + 6);
-    Eight {
-        s0,
-        s1,
-        s2,
-        s3,
-        s4,
-        s5,
-        s6,
-        s7,
-    }
+    e.rest(x, i, lag)
 }
 
 fn no_sums() -> [f64; LAGS]
