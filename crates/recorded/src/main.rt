@@ -12,6 +12,7 @@ mod numbers;
 mod print;
 mod replay;
 mod signal;
+mod signals;
 
 use lists::Module;
 

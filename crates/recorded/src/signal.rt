@@ -2,9 +2,8 @@
 use super::bits;
 use super::input::BUFFER;
 use super::replay::Replay;
-
-// Samples of a frame.
-const FRAME: usize = 480;
+use super::signals;
+use level::FRAME;
 
 // A signal by its number, seed and scale.
 pub struct Signal {

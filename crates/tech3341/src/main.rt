@@ -5,6 +5,7 @@
 // Durations are in frames of 10 ms, levels in dB below full scale (peak).
 ghost use Prim.Native.Nat.{_≤_, _<_};
 use float::Lufs;
+use level::FRAME;
 use level::Level;
 use libc::STDOUT_FILENO;
 
@@ -127,10 +128,10 @@ fn amplitude(below: u64) -> f32
 }
 
 // A frame of the sine.
-fn samples(amplitude: f32) -> [f32; 480] {
-    let mut x = [0.0f32; 480];
+fn samples(amplitude: f32) -> [f32; FRAME] {
+    let mut x = [0.0f32; FRAME];
     let mut k = 0;
-    while k < 480 {
+    while k < FRAME {
         x[k] = SINE[k % 48] * amplitude;
         k += 1;
     }

@@ -147,7 +147,7 @@ fn duck(w: &[u64; 12]) -> Duck
     }
 }
 
-// All settings from their words, in the image's order; the flags, words 7 and 12, are 0 or not.
+// All settings from their words, in the image's order. A flag (w[6], enabled, and w[11], bed_voice) is on where its word isn't 0.
 pub fn settings(w: &[u64; 12]) -> Settings
     ensures { λ r. ⌜ r ≡ settingsFrom (now (w .entry)) ⌝ }
 {
