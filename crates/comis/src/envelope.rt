@@ -1,4 +1,4 @@
-// A one-pole smoother with a time constant for each direction.
+// A one-pole smoother of any number, with a time constant for each direction.
 ghost use mathlib.Core.Path.{_≡_};
 ghost use Rattle.comis.specs.Envelope.{coeffOf, processOf};
 
@@ -6,19 +6,19 @@ pub struct EnvelopeDetector {
     pub current: f64,
 }
 
-// An envelope after a step, and whether the number that the step handed to the power, if any, was finite.
+// An envelope after a step, and whether the number that the step handed to e ^ x, if any, was finite.
 pub struct Stepped {
     pub envelope: EnvelopeDetector,
     pub finite: bool,
 }
 
-// The part of the distance to the target that a step leaves, and whether the number handed to the power, if any, was finite.
+// The part of the distance to the target that a step leaves, and whether the number handed to e ^ x, if any, was finite.
 pub struct Coefficient {
     pub value: f64,
     pub finite: bool,
 }
 
-// A time constant that isn't above zero or isn't finite, or a step of no time, means a jump to the target.
+// By a time constant and a step, seconds. A time constant that isn't above zero or isn't finite, or a step of no time, means a jump to the target.
 fn coeff(time_constant: f64, dt_seconds: f64) -> Coefficient
     ensures { λ r. ⌜ r ≡ coeffOf «time_constant» «dt_seconds» ⌝ }
 {

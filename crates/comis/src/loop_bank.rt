@@ -58,12 +58,13 @@ pub enum Need {
     Reduction(Db),
 }
 
-// The loops after an update, and whether all that the update handed to a power was finite.
+// The loops after an update, and whether all that the update handed to e ^ x was finite.
 pub struct Updated {
     pub loops: Loops,
     pub finite: bool,
 }
 
+// What is shown and applied of the loops: each loop's reduction, and their sum from 0 to the deepest.
 pub struct LoopContributions {
     pub slow_db: Db,
     pub mid_db: Db,
@@ -86,6 +87,7 @@ fn release_stretch(hold_remaining_seconds: f64, state: MixState) -> f64
     }
 }
 
+// How much faster a release is by its state: only an interview's is.
 fn release_speedup(state: MixState) -> f64
     ensures { λ r. ⌜ r ≡ releaseSpeedup state ⌝ }
 {

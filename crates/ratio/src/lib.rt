@@ -65,7 +65,7 @@ pub struct Framed {
     pub finite: bool,
 }
 
-// A loudness to 0.1 LUFS.
+// A loudness as it is shown: to 0.1 LUFS, or silence.
 fn reading(l: Lufs) -> Shown
     ensures { λ r. ⌜ r ≡ readingOf l ⌝ }
 {
@@ -75,7 +75,7 @@ fn reading(l: Lufs) -> Shown
     Shown::Silence
 }
 
-// To 0.01. Negative zero becomes zero.
+// To 0.01, dB or LU. Negative zero becomes zero.
 fn round(x: f64) -> f64
     ensures { λ r. ⌜ r ≡ roundedOf x ⌝ }
 {
@@ -93,6 +93,7 @@ fn ratio_shown(dialogue: Lufs, bed: Lufs, reduction: Db) -> Shown
     Shown::Silence
 }
 
+// The settings as the engine takes them.
 fn config(d: Duck) -> AutomixEngineConfig
     ensures { λ r. ⌜ r ≡ configOf d ⌝ }
 {
@@ -105,6 +106,7 @@ fn config(d: Duck) -> AutomixEngineConfig
     }
 }
 
+// What is shown of an enabled frame.
 fn status(c: AutomixEngineConfig, state: MixState, l: LoopContributions, i: Inputs) -> RatioStatus
     ensures { λ r. ⌜ r ≡ statusOf c state l i ⌝ }
 {
@@ -121,6 +123,7 @@ fn status(c: AutomixEngineConfig, state: MixState, l: LoopContributions, i: Inpu
     }
 }
 
+// Whether a shown reading is finite; silence is.
 fn finite_shown(s: Shown) -> bool
     ensures { λ r. ⌜ r ≡ finiteShown s ⌝ }
 {
@@ -130,6 +133,7 @@ fn finite_shown(s: Shown) -> bool
     }
 }
 
+// Whether all that is stored is finite.
 fn finite_loops(l: Loops) -> bool
     ensures { λ r. ⌜ r ≡ finiteLoops l ⌝ }
 {
@@ -139,6 +143,7 @@ fn finite_loops(l: Loops) -> bool
         & float::finite(l.hold_remaining_seconds)
 }
 
+// Whether all that is shown is finite.
 fn finite_status(s: RatioStatus) -> bool
     ensures { λ r. ⌜ r ≡ finiteStatus s ⌝ }
 {
