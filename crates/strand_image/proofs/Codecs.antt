@@ -12,8 +12,8 @@ use Rattle.codec.specs.Codec.{CellLaws, CodecLaws}
 use Rattle.codec.specs.Forms.{f64, below, flag, one, fixed, pair}
 use Rattle.codec.proofs.Kept.{zero-num}
 use Rattle.codec.proofs.Forms.{f64-laws, f32-laws, below-laws, flag-laws, one-laws, fixed-laws, pair-laws, as-a-laws, also-laws, counted-laws, maybe-laws}
-use Rattle.detector.specs.declared.Smoothed as smoothedPower
-use Rattle.detector.specs.declared.Smoothed.the-variants as smoothedPowerCases
+use Rattle.detector.specs.declared.floor.Smoothed as smoothedPower
+use Rattle.detector.specs.declared.floor.Smoothed.the-variants as smoothedPowerCases
 use Rattle.vad.specs.declared.SpeechPower as speechPower
 use Rattle.vad.specs.declared.SpeechPower.the-variants as speechPowerCases
 use Rattle.strand_image.specs.Strand.{state, filters, powers, decimated, minima, history, fromSmoothed, toSmoothed, smoothed, fromPower, toPower, power, windowRule, window, floor, countsRule, fromCounts, toCounts, counts, decision, front, strand}
