@@ -1,6 +1,6 @@
 // What `--help` prints.
-use crate::output;
 use libc::STDOUT_FILENO;
+use program::output;
 
 pub fn print() {
     let written = io::write_all(
@@ -36,6 +36,6 @@ pub fn print() {
           whose reader is gone ends the program without a word.\n",
     );
     if !written {
-        output::complain();
+        output::complain(b"duckline");
     }
 }

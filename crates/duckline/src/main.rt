@@ -1,17 +1,22 @@
 // Reads frames from standard input, 3,840 bytes each (key, then bed, f32 little-endian), runs them through a chain with fresh settings, and
 // writes a line for each. One read takes what is there, up to 16 frames; their lines are written before the next read can wait. What fails is
 // told on standard error, and ends the program.
-mod arguments;
 mod help;
-mod input;
-mod output;
 
 ghost use mathlib.Core.Path.{_≡_};
-ghost use Rattle.duckline.specs.Input.{endingOf};
-use arguments::Request;
+ghost use Prim.Native.Nat.{_≤_};
+ghost use lib.ListN.{length};
+ghost use Rattle.frame_bytes.specs.Bytes.{bufferBytes};
+ghost use Rattle.line_text.specs.Line.{textBytes};
+ghost use Rattle.duckline.specs.Ending.{endingOf};
 use frame_bytes::BUFFER;
-use input::Got;
+use libc::STDOUT_FILENO;
 use line_text::TEXT;
+use program::arguments;
+use program::arguments::Request;
+use program::input;
+use program::input::Got;
+use program::output;
 
 // How the lines ended.
 enum Ending {
@@ -34,6 +39,14 @@ fn stopped(got: Got, held: usize) -> Ending
     }
 }
 
+// Writes the first n bytes of the text, and answers whether that could be done.
+fn write(text: &[u8; TEXT], n: usize) -> bool
+    requires { ⌜ n ≤ textBytes ⌝ }
+{
+    let whole: &[u8] = text;
+    io::write_all(STDOUT_FILENO, &whole[..n])
+}
+
 // The lines of all whole frames.
 fn all_frames(buffer: &mut [u8; BUFFER], text: &mut [u8; TEXT]) -> Ending {
     let mut run = ducklines::fresh_run();
@@ -48,7 +61,7 @@ fn all_frames(buffer: &mut [u8; BUFFER], text: &mut [u8; TEXT]) -> Ending {
         let next = t.run;
         run = next;
         held = t.held;
-        if output::write(text, run.end) {
+        if write(text, run.end) {
             turns -= 1;
         } else {
             return Ending::Unwritten;
@@ -60,20 +73,26 @@ fn all_frames(buffer: &mut [u8; BUFFER], text: &mut [u8; TEXT]) -> Ending {
 // The line of so many leftover bytes, where there are any.
 fn leftover(text: &mut [u8; TEXT], left: usize) {
     let end = line_text::short(text, left);
-    if !output::write(text, end) {
-        output::complain();
+    if !write(text, end) {
+        output::complain(b"duckline");
     }
+}
+
+fn buffer() -> [u8; BUFFER]
+    ensures { λ r. ⌜ bufferBytes ≡ length r ⌝ }
+{
+    [0; BUFFER]
 }
 
 // All of the input.
 fn run() {
-    let mut buffer = input::buffer();
+    let mut buffer = buffer();
     let mut text = [0u8; TEXT];
     let ending = all_frames(&mut buffer, &mut text);
     match ending {
         Ending::Ended(left) => leftover(&mut text, left),
-        Ending::Unread => os::fail(b"duckline: cannot read standard input"),
-        Ending::Unwritten => output::complain(),
+        Ending::Unread => input::complain(b"duckline"),
+        Ending::Unwritten => output::complain(b"duckline"),
     }
 }
 
@@ -84,6 +103,6 @@ fn main() {
     match request {
         Request::Run => run(),
         Request::Help => help::print(),
-        Request::Unknown => arguments::refuse(&word[..n]),
+        Request::Unknown => arguments::refuse(b"duckline", &word[..n]),
     }
 }

@@ -18,7 +18,7 @@ use Rattle.line_text.proofs.Parts.{line-length}
 
 ran-next : (c : Chain) (n : ℕ) (b : List ℕ) (k : ℕ) → ranOf c n b (k + 1) ≡ heardOf (ranOf c n b k) (keyAt b k) (bedAt b k)
 unfolding ranOf
-ran-next c n b k = rw add-one
+ran-next c n b k = ap (ranOf c n b) (add-one k)
 
 pub ran-length : (c : Chain) (n : ℕ) (b : List ℕ) (k : ℕ) → length (ranOf c n b k .text) ≤ 64 * k
 unfolding ranOf
@@ -38,7 +38,7 @@ pub frames-zero : (s : Run) (b t : List ℕ) → record { run = record { chain =
 unfolding framesIn ranOf
 frames-zero s b t = λ j. record { run = record { chain = s .chain; number = s .number; end = 0 }; bytes = none-yet t 0 .is j }
 
-pub frames-next : (s : Run) (b : List ℕ) (k : ℕ) (t : List ℕ) → let w = framesIn s b k t in frameIn (w .run) b k (w .bytes) ≡ framesIn s b (k + 1) t
+frames-next : (s : Run) (b : List ℕ) (k : ℕ) (t : List ℕ) → let w = framesIn s b k t in frameIn (w .run) b k (w .bytes) ≡ framesIn s b (k + 1) t
 unfolding framesIn frameIn
 frames-next s b k t =
     let r = ranOf (s .chain) (s .number) b k in
@@ -46,6 +46,10 @@ frames-next s b k t =
     let l = lineOf (r .number) (f .outcome) in
     sym (λ j. record { run = record { chain = f .chain; number = (r .number + 1) % 2 ^ 64; end = length-append (r .text) l j }; bytes = (laid-append (r .text) l t 0 ∙ ap (λ (n : ℕ). laid (laid t 0 (r .text)) n l) (zero-add _)) j })
     ∙ ap (λ (q : Ran). writtenIn q t) (sym (ran-next (s .chain) (s .number) b k))
+
+-- a turn of the loop over the frames
+pub frames-turn : (w next : Written) (s : Run) (b : List ℕ) (k : ℕ) (t : List ℕ) → w ≡ framesIn s b k t → next ≡ frameIn (w .run) b k (w .bytes) → next ≡ framesIn s b (k + 1) t
+frames-turn w next s b k t e f = f ∙ ap (λ (x : Written). frameIn (x .run) b k (x .bytes)) e ∙ frames-next s b k t
 
 pub frames-end : (w : Written) (s : Run) (b : List ℕ) (k : ℕ) (t : List ℕ) → w ≡ framesIn s b k t → w .run .end ≤ 64 * k
 unfolding framesIn

@@ -10,7 +10,8 @@ use Rattle.comis.specs.declared.mix_state.MixState.{MixState}
 use Rattle.comis.specs.declared.mix_state.MixState.the-variants.{ReleaseToUnity, DuckToTarget, InterviewPassthrough, DuckToOvervoice}
 use Rattle.chain.specs.declared.Outcome.{Outcome}
 use Rattle.chain.specs.declared.Outcome.the-variants as outcome
-use Rattle.line_text.specs.Line.{ascii, decimal, line, stateName, activeName, frameWords, lineOf, shortLine, putAt}
+use Rattle.program.specs.Text.{ascii}
+use Rattle.line_text.specs.Line.{decimal, line, stateName, activeName, frameWords, lineOf, shortLine, putAt}
 use Rattle.line_text.proofs.Digits.{decimal-length}
 use Rattle.line_text.proofs.Putting.{text, promised, put-end}
 

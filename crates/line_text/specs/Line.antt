@@ -1,7 +1,6 @@
 -- What duckline writes: the line of a frame, and that of leftover bytes. Definitions only.
-use Prim.Native.Char.{code}
 use Prim.Native.Nat.{ℕ, zero, suc, _+_, _/_, _%_}
-use Prim.Native.String.{String, [], _∷_}
+use Prim.Native.String.{String}
 use mathlib.Core.Bool.{Bool, true, false, cond}
 use mathlib.Core.List.{List, [] as none, _∷_ as _then_, _++_}
 use lib.Dec.{eqb, ltb}
@@ -9,6 +8,7 @@ use lib.Ieee.{Float, binary64, toUnsigned}
 use lib.ListN.{length}
 use Rattle.float.specs.Arithmetic.{_⊗_, hundred64}
 use Rattle.float.specs.Whole.{roundOf}
+use Rattle.program.specs.Text.{ascii}
 use Rattle.refusal.specs.Table.{numberOf}
 use Rattle.blocks.specs.Lists.{laid}
 use Rattle.comis.specs.declared.mix_state.MixState.{MixState}
@@ -22,11 +22,6 @@ abbrev pub textBytes : ℕ
 textBytes = 1024
 
 -- ---- text
-
--- the bytes of an ASCII text
-abbrev pub ascii : String → List ℕ
-ascii [] = none
-ascii (c ∷ s) = code c then ascii s
 
 -- a number's decimal digits without zeros in front; k is at least how many there are
 unfoldable pub digitsWithin : ℕ → ℕ → List ℕ

@@ -1,9 +1,10 @@
-// The lines of standard output (specs/Line.antt), put into a text that is lent.
+// duckline's lines (specs/Line.antt), put into a text that is lent.
 ghost use mathlib.Core.Path.{_≡_};
 ghost use Prim.Native.Nat.{_+_, _≤_};
 ghost use mathlib.Core.List.{_++_};
 ghost use lib.ListN.{length};
-ghost use Rattle.line_text.specs.Line.{textBytes, ascii, decimal, line, stateName, activeName, hundredthsOf, answerWords, lineOf, shortLine, putAt};
+ghost use Rattle.program.specs.Text.{ascii};
+ghost use Rattle.line_text.specs.Line.{textBytes, decimal, line, stateName, activeName, hundredthsOf, answerWords, lineOf, shortLine, putAt};
 use chain::Answer;
 use chain::Outcome;
 use comis::mix_state::MixState;
@@ -87,7 +88,7 @@ fn put_answer(text: &mut [u8; TEXT], at: usize, a: Answer) -> usize
     put(text, end, b"\n")
 }
 
-// A frame's line, at most 64 bytes.
+// A frame's line, at most 64 bytes. The caller shows that there is room.
 pub fn frame(text: &mut [u8; TEXT], at: usize, number: u64, outcome: Outcome) -> usize
     requires { ⌜ at + 64 ≤ textBytes ⌝ }
     ensures { λ r. ⌜ record { bytes = now (text .exit); end = r } ≡ putAt (now (text .entry)) at (lineOf number outcome) ⌝ }

@@ -3,7 +3,7 @@ use Prim.Native.Nat.{_<_}
 use native.Mathlib.Omega.{arith}
 use borrow.Author.Needs.{needs}
 use Rattle.ducklines.proofs.Ran.{read-held, read-end}
-use Rattle.duckline.proofs.Brought.{brought}
+use Rattle.program.proofs.Brought.{brought}
 use Rattle.duckline.proofs.all_frames.Statement.{statement}
 use Rattle.duckline.proofs.all_frames.Tie as tie
 

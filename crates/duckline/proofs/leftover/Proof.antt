@@ -11,6 +11,9 @@ short-requires c κs = search needs
 write-requires : tie.Need-write-requires
 write-requires c κs = omega (arith, bytes-end _ _ _ _ _ (c .before .short .ensures), short-length (c .before .before .before .args .left))
 
+slice-aggregate-complain : tie.Need-slice-aggregate-complain
+slice-aggregate-complain c = search needs
+
 complain-requires : tie.Need-complain-requires
 complain-requires c κs = search needs
 
@@ -22,4 +25,4 @@ returns-2 c = search needs
 
 pub leftover-spec : {M : Type 1} → statement M
 leftover-spec =
-    tie.close (tie.spec short-requires write-requires complain-requires returns returns-2)
+    tie.close (tie.spec short-requires write-requires slice-aggregate-complain complain-requires returns returns-2)

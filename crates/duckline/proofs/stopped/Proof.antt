@@ -1,8 +1,8 @@
 -- `stopped` meets its contract, case by case.
 use mathlib.Core.Path.{sym, ap}
 use borrow.Author.Needs.{needs}
-use Rattle.duckline.specs.declared.input.Got.{Got}
-use Rattle.duckline.specs.Input.{endingOf}
+use Rattle.program.specs.declared.input.Got.{Got}
+use Rattle.duckline.specs.Ending.{endingOf}
 use Rattle.duckline.proofs.stopped.Statement.{statement}
 use Rattle.duckline.proofs.stopped.Tie as tie
 

@@ -2,8 +2,8 @@
 use mathlib.Core.Path.{_≡_, ap, _∙_}
 use Prim.Native.Nat.{ℕ, _-_, _≤_}
 use native.Mathlib.Omega.{arith}
-use Rattle.ducklines.specs.Frames.{Written, frameIn, framesIn}
-use Rattle.ducklines.proofs.Ran.{frames-zero, frames-next, frames-end}
+use Rattle.ducklines.specs.Frames.{framesIn}
+use Rattle.ducklines.proofs.Ran.{frames-zero, frames-turn, frames-end}
 use borrow.Author.Needs.{needs}
 use Rattle.ducklines.proofs.frames.Statement.{statement}
 use Rattle.ducklines.proofs.frames.Tie as tie
@@ -32,11 +32,7 @@ loop-less c = search needs
 loop-again : tie.Need-loop-again Inv-loop μ-loop
 loop-again c =
     let l = c .before .before .before .loop in
-    let b = c .before .before .before .before .args .buffer .now in (
-      omega arith,
-      l .inv .1,
-      c .frame .ensures ∙ ap (λ (w : Written). frameIn (w .run) b (l .i) (w .bytes)) (l .inv .2) ∙ frames-next _ _ _ _,
-    )
+    (omega arith, l .inv .1, frames-turn _ _ _ _ _ _ (l .inv .2) (c .frame .ensures))
 
 returns : tie.Need-returns Inv-loop μ-loop
 unfolding framesIn

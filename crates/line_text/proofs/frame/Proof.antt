@@ -3,7 +3,8 @@ use mathlib.Core.Path.{sym, ap, _∙_}
 use mathlib.Core.List.{_++_}
 use Prim.Native.Nat.{ℕ}
 use native.Mathlib.Omega.{arith}
-use Rattle.line_text.specs.Line.{ascii, decimal, lineOf}
+use Rattle.program.specs.Text.{ascii}
+use Rattle.line_text.specs.Line.{decimal, lineOf}
 use Rattle.line_text.proofs.Parts.{refused-joined, decimal-end, bytes-end}
 use Rattle.line_text.proofs.Putting.{promised, put-as, put-then}
 use borrow.Author.Needs.{needs}

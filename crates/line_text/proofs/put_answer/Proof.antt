@@ -3,7 +3,8 @@ use mathlib.Core.Path.{ap, _∙_}
 use Prim.Native.Nat.{ℕ, _+_}
 use native.Mathlib.Omega.{arith}
 use mathlib.Core.List.{_++_}
-use Rattle.line_text.specs.Line.{ascii, decimal, hundredthsOf}
+use Rattle.program.specs.Text.{ascii}
+use Rattle.line_text.specs.Line.{decimal, hundredthsOf}
 use Rattle.line_text.proofs.Parts.{statePart, activePart, answer-joined, state-end, active-end, decimal-end}
 use Rattle.line_text.proofs.Putting.{promised, put-as, put-then}
 use borrow.Author.Needs.{needs}

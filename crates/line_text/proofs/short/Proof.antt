@@ -5,7 +5,8 @@ use mathlib.Core.List.{[], _∷_}
 use native.Mathlib.Omega.{arith}
 use borrow.Author.Tests.{eq-eqb, ne-eqb}
 use Rattle.blocks.proofs.Lists.{none-yet}
-use Rattle.line_text.specs.Line.{ascii, decimal, line, shortLine}
+use Rattle.program.specs.Text.{ascii}
+use Rattle.line_text.specs.Line.{decimal, line, shortLine}
 use Rattle.line_text.proofs.Parts.{short-joined, decimal-end, bytes-end}
 use Rattle.line_text.proofs.Putting.{promised, put-laid, put-as, put-then}
 use borrow.Author.Needs.{needs}

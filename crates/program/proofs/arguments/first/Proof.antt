@@ -3,8 +3,8 @@ use mathlib.Core.Path.{sym}
 use native.Mathlib.Omega.{arith}
 use lib.Seq.{length-take-le}
 use borrow.Author.Needs.{needs}
-use Rattle.duckline.proofs.arguments.first.Statement.{statement}
-use Rattle.duckline.proofs.arguments.first.Tie as tie
+use Rattle.program.proofs.arguments.first.Statement.{statement}
+use Rattle.program.proofs.arguments.first.Tie as tie
 
 arg-requires : tie.Need-arg-requires
 arg-requires c κs = search needs

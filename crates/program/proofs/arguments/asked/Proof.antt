@@ -2,9 +2,9 @@
 use mathlib.Core.Path.{sym, _∙_}
 use borrow.Author.Needs.{needs}
 use borrow.Author.Tests.{lt-ltb, le-ltb}
-use Rattle.duckline.specs.Arguments.{requestOf}
-use Rattle.duckline.proofs.arguments.asked.Statement.{statement}
-use Rattle.duckline.proofs.arguments.asked.Tie as tie
+use Rattle.program.specs.Arguments.{requestOf}
+use Rattle.program.proofs.arguments.asked.Statement.{statement}
+use Rattle.program.proofs.arguments.asked.Tie as tie
 
 returns : tie.Need-returns
 unfolding requestOf

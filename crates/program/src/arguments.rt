@@ -1,10 +1,11 @@
-// What the program's arguments ask for. The first one decides.
+// What a program's arguments ask for. The first one decides.
 ghost use mathlib.Core.Path.{_≡_};
 ghost use Rattle.io.specs.Counts.{Counts};
-ghost use Rattle.duckline.specs.Arguments.{requestOf};
+ghost use Rattle.program.specs.Arguments.{requestOf};
 use libc::ENAMETOOLONG;
 use libc::STDERR_FILENO;
 
+// Its work, its help, or what it doesn't know.
 pub enum Request {
     Run,
     Help,
@@ -39,9 +40,12 @@ pub fn asked(count: usize, first: &[u8]) -> Request
     Request::Unknown
 }
 
-// Says on standard error that an argument isn't known.
-pub fn refuse(word: &[u8]) {
-    io::write_all(STDERR_FILENO, b"duckline: unknown argument '");
+// Says on standard error that an argument isn't known, behind the program's name.
+pub fn refuse(program: &[u8], word: &[u8]) {
+    io::write_all(STDERR_FILENO, program);
+    io::write_all(STDERR_FILENO, b": unknown argument '");
     io::write_all(STDERR_FILENO, word);
-    io::write_all(STDERR_FILENO, b"' (duckline --help says what it takes)\n");
+    io::write_all(STDERR_FILENO, b"' (");
+    io::write_all(STDERR_FILENO, program);
+    io::write_all(STDERR_FILENO, b" --help says what it takes)\n");
 }

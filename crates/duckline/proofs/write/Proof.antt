@@ -1,10 +1,10 @@
--- `output::write` is safe: the text has 1,024 bytes.
+-- `write` is safe: the text has 1,024 bytes.
 use mathlib.Core.Path.{sym}
 use native.Mathlib.Omega.{arith}
 use lib.Seq.{length-take-le}
 use borrow.Author.Needs.{needs}
-use Rattle.duckline.proofs.output.write.Statement.{statement}
-use Rattle.duckline.proofs.output.write.Tie as tie
+use Rattle.duckline.proofs.write.Statement.{statement}
+use Rattle.duckline.proofs.write.Tie as tie
 
 slice-aggregate-write-all : tie.Need-slice-aggregate-write-all
 slice-aggregate-write-all c =

@@ -1,0 +1,9 @@
+-- The bytes of an ASCII text. Definitions only.
+use Prim.Native.Char.{code}
+use Prim.Native.Nat.{ℕ}
+use Prim.Native.String.{String, [], _∷_}
+use mathlib.Core.List.{List, [] as none, _∷_ as _then_}
+
+abbrev pub ascii : String → List ℕ
+ascii [] = none
+ascii (c ∷ s) = code c then ascii s
