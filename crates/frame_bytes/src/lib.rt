@@ -31,7 +31,7 @@ fn no_samples() -> [f32; SAMPLES]
     [0.0; SAMPLES]
 }
 
-// The strand whose first byte is at `first`.
+// The strand whose first byte is at `first`. The caller shows that its places don't wrap.
 fn strand(buffer: &[u8; BUFFER], first: usize) -> [f32; SAMPLES]
     requires { ⌜ first < 2 ^ 32 ⌝ }
     ensures { λ r. ⌜ r ≡ strandAt (now (buffer .entry)) first ⌝ }

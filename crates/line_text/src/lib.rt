@@ -23,7 +23,8 @@ fn placed(text: &[u8], at: usize, n: usize) -> usize
     sequence::least(n, places - at)
 }
 
-// Puts bytes at a place of the text, and answers the place after them. What has no place in the text is dropped.
+// Puts bytes at a place of the text, and answers the place after them. What has no place in the text is dropped. Here and below the
+// caller shows that places don't wrap.
 fn put(text: &mut [u8; TEXT], at: usize, bytes: &[u8]) -> usize
     requires { ⌜ at + length (now bytes) ≤ 2 ^ 32 ⌝ }
     ensures { λ r. ⌜ record { bytes = now (text .exit); end = r } ≡ putAt (now (text .entry)) at (now (bytes .entry)) ⌝ }
