@@ -1,7 +1,7 @@
 -- The text does not depend on how the input is cut into reads.
 use mathlib.Core.Path.{_≡_, refl, sym, ap, _∙_}
 use mathlib.Core.List.{List, _++_, append-assoc, append-nil}
-use Prim.Native.Nat.{ℕ, zero, suc, _+_, _-_, _*_, _/_, _%_, _^_, _≤_}
+use Prim.Native.Nat.{ℕ, zero, suc, _+_, _-_, _*_, _/_, _%_, _^_, _≤_, min}
 use native.Mathlib.Nat.{add-zero, add-suc}
 use native.Mathlib.Omega.{arith}
 use lib.ListN.{length, take, drop, length-append, length-drop, take-append-drop}
@@ -14,7 +14,7 @@ use Rattle.chain.specs.Chain.{freshOf, frameOf}
 use Rattle.frame_bytes.specs.Bytes.{bufferBytes, strandAt, keyAt, bedAt, keptOf}
 use Rattle.line_text.specs.Line.{textBytes, lineOf}
 use Rattle.ducklines.specs.declared.Run.{Run}
-use Rattle.ducklines.specs.Frames.{Ran, heardOf, ranOf, framesIn, afterReadIn}
+use Rattle.ducklines.specs.Frames.{Ran, AfterRead, heardOf, ranOf, framesIn, amongIn, afterReadIn}
 use Rattle.frame_bytes.proofs.Samples.{strand-append, strand-drop}
 use Rattle.frame_bytes.proofs.Kept.{kept-length}
 use Rattle.ducklines.proofs.Ran.{ran-length}
@@ -105,6 +105,15 @@ drop-of-take m n l g h =
     ∙ ap (drop m) (take-add m (n - m) l)
     ∙ drop-at (take m l) (take (n - m) (drop m l)) m (length-take-le m l (omega arith))
 
+-- what a read leads to, and the text so far in front
+abbrev reading : List ℕ → AfterRead → Reading
+reading text r = record {
+  chain = r .next .run .chain;
+  number = r .next .run .number;
+  held = take (r .next .held) (r .buffer);
+  text = text ++ take (r .next .run .end) (r .text);
+}
+
 module _ (s : Run) (b t held got : List ℕ) (n : ℕ) (there : n ≤ length b) (came : take n b ≡ held ++ got) where
   abbrev whole : ℕ
   whole = n / 3840
@@ -122,7 +131,7 @@ module _ (s : Run) (b t held got : List ℕ) (n : ℕ) (there : n ≤ length b) 
   held-read : let rest = take (n - whole * 3840) (drop (whole * 3840) b) in
       take (n - whole * 3840) (laid b 0 rest) ≡ drop (length (held ++ got) / 3840 * 3840) (held ++ got)
   held-read =
-      laid-start b (take (n - whole * 3840) (drop (whole * 3840) b)) (n - whole * 3840) (kept-length b (whole * 3840) (n - whole * 3840) (omega arith)) (omega arith)
+      laid-start b (take (n - whole * 3840) (drop (whole * 3840) b)) (n - whole * 3840) (omega (arith, kept-length b (whole * 3840) (n - whole * 3840))) (omega arith)
       ∙ sym (drop-of-take (whole * 3840) n b (omega arith) there)
       ∙ ap (λ (m : ℕ). drop (m / 3840 * 3840) (take n b)) (sym taken)
       ∙ ap (λ (x : List ℕ). drop (length x / 3840 * 3840) x) came
@@ -133,23 +142,18 @@ module _ (s : Run) (b t held got : List ℕ) (n : ℕ) (there : n ≤ length b) 
       laid-start t (r .text) (length (r .text)) refl (omega (arith, ran-length (s .chain) (s .number) b whole))
 
   code-reads : (text : List ℕ) → n ≤ bufferBytes → length t ≡ textBytes
-      → let r = afterReadIn s b n t in
-      _≡_ {A = Reading}
-      (record {
-        chain = r .next .run .chain;
-        number = r .next .run .number;
-        held = take (r .next .held) (r .buffer);
-        text = text ++ take (r .next .run .end) (r .text);
-      })
-      (readOf (record { chain = s .chain; number = s .number; held = held; text = text }) got)
-  unfolding afterReadIn framesIn keptOf readOf
+      → reading text (afterReadIn s b n t)
+      ≡ readOf (record { chain = s .chain; number = s .number; held = held; text = text }) got
+  unfolding afterReadIn amongIn framesIn keptOf readOf
   code-reads text small room =
-      λ j. record {
+      let all : min n bufferBytes ≡ n = omega arith in
+      ap (λ (m : ℕ). reading text (amongIn s b m t)) all
+      ∙ (λ j. record {
         chain = run-read j .chain;
         number = run-read j .number;
         held = held-read j;
         text = text ++ (text-read small room ∙ ap (λ (r : Ran). r .text) run-read) j;
-      }
+      })
 
 pub any-reads : AnyReads
 any-reads = record {

@@ -1,7 +1,7 @@
 -- One frame more in a run of frames, as a text and as the program puts it; and how long the text is.
 use mathlib.Core.Path.{_≡_, refl, sym, ap, _∙_}
 use mathlib.Core.List.{List, []}
-use Prim.Native.Nat.{ℕ, zero, suc, _+_, _-_, _*_, _/_, _%_, _^_, _≤_}
+use Prim.Native.Nat.{ℕ, zero, suc, _+_, _-_, _*_, _/_, _%_, _^_, _≤_, _<_, min}
 use native.Mathlib.Nat.{zero-add}
 use native.Mathlib.Numerals.{add-one}
 use native.Mathlib.Omega.{arith}
@@ -10,9 +10,9 @@ use Rattle.blocks.specs.Lists.{laid}
 use Rattle.blocks.proofs.Lists.{none-yet, laid-append}
 use Rattle.chain.specs.declared.Chain.{Chain}
 use Rattle.chain.specs.Chain.{frameOf}
-use Rattle.frame_bytes.specs.Bytes.{keyAt, bedAt, keptOf}
-use Rattle.line_text.specs.Line.{lineOf}
-use Rattle.ducklines.specs.Frames.{Ran, Written, AfterRead, heardOf, ranOf, frameIn, framesIn, afterReadIn}
+use Rattle.frame_bytes.specs.Bytes.{frameBytes, bufferBytes, keyAt, bedAt, keptOf}
+use Rattle.line_text.specs.Line.{textBytes, lineOf}
+use Rattle.ducklines.specs.Frames.{Ran, Written, AfterRead, heardOf, ranOf, frameIn, framesIn, amongIn, afterReadIn}
 use Rattle.ducklines.specs.declared.Run.{Run}
 use Rattle.line_text.proofs.Parts.{line-length}
 
@@ -55,12 +55,12 @@ pub frames-end : (w : Written) (s : Run) (b : List ℕ) (k : ℕ) (t : List ℕ)
 unfolding framesIn
 frames-end w s b k t e = omega (arith, ap (λ (x : Written). x .run .end) e, ran-length (s .chain) (s .number) b k)
 
--- after a read: how many bytes are held, and where its text ends
+-- after a read less than a frame is held, and its text has room
 
-pub read-held : (a : AfterRead) (s : Run) (b : List ℕ) (n : ℕ) (t : List ℕ) → a ≡ afterReadIn s b n t → a .next .held ≡ n - n / 3840 * 3840
-unfolding afterReadIn keptOf
-read-held a s b n t e = ap (λ (x : AfterRead). x .next .held) e
+pub read-held : (a : AfterRead) (s : Run) (b : List ℕ) (n : ℕ) (t : List ℕ) → a ≡ afterReadIn s b n t → a .next .held < frameBytes
+unfolding afterReadIn amongIn keptOf
+read-held a s b n t e = omega (arith, ap (λ (x : AfterRead). x .next .held) e)
 
-pub read-end : (a : AfterRead) (s : Run) (b : List ℕ) (n : ℕ) (t : List ℕ) → a ≡ afterReadIn s b n t → a .next .run .end ≤ 64 * (n / 3840)
-unfolding afterReadIn framesIn
-read-end a s b n t e = omega (arith, ap (λ (x : AfterRead). x .next .run .end) e, ran-length (s .chain) (s .number) b (n / 3840))
+pub read-end : (a : AfterRead) (s : Run) (b : List ℕ) (n : ℕ) (t : List ℕ) → a ≡ afterReadIn s b n t → a .next .run .end ≤ textBytes
+unfolding afterReadIn amongIn framesIn
+read-end a s b n t e = omega (arith, ap (λ (x : AfterRead). x .next .run .end) e, ran-length (s .chain) (s .number) b (min n bufferBytes / frameBytes))

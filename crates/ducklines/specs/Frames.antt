@@ -1,12 +1,12 @@
 -- What duckline does with bytes that it has read: frames one after the other, their lines, and what is left. Definitions only.
-use Prim.Native.Nat.{ℕ, zero, suc, _+_, _/_, _%_, _^_}
+use Prim.Native.Nat.{ℕ, zero, suc, _+_, _/_, _%_, _^_, min}
 use mathlib.Core.List.{List, [], _++_}
 use lib.Ieee.{Float}
 use lib.ListN.{length}
 use Rattle.blocks.specs.Lists.{laid}
 use Rattle.chain.specs.declared.Chain.{Chain}
 use Rattle.chain.specs.Chain.{freshOf, frameOf}
-use Rattle.frame_bytes.specs.Bytes.{frameBytes, keyAt, bedAt, keptOf}
+use Rattle.frame_bytes.specs.Bytes.{frameBytes, bufferBytes, keyAt, bedAt, keptOf}
 use Rattle.line_text.specs.Line.{lineOf, putAt}
 use Rattle.ducklines.specs.declared.Run.{Run}
 use Rattle.ducklines.specs.declared.Next.{Next}
@@ -60,10 +60,14 @@ pub record AfterRead : Type 0 where
   pub buffer : List ℕ
   pub text : List ℕ
 
--- n bytes are held: the whole frames among them get their lines, and what is left behind them is held
-unfoldable pub afterReadIn : Run → List ℕ → ℕ → List ℕ → AfterRead
-afterReadIn s b n t =
+-- the first n bytes of a buffer are held: the whole frames among them get their lines, and what is left behind them is held
+unfoldable pub amongIn : Run → List ℕ → ℕ → List ℕ → AfterRead
+amongIn s b n t =
     let k = n / frameBytes in
     let w = framesIn s b k t in
     let h = keptOf b k n in
     record { next = record { run = w .run; held = h .held }; buffer = h .bytes; text = w .bytes }
+
+-- n bytes are held, or as many as the buffer has
+unfoldable pub afterReadIn : Run → List ℕ → ℕ → List ℕ → AfterRead
+afterReadIn s b n t = amongIn s b (min n bufferBytes) t

@@ -1,8 +1,7 @@
 // What bytes that were read lead to: the frames among them run through a chain, and each gets a line (specs/Frames.antt). That the text doesn't
 // depend on how the input is cut into reads is promised by `any_reads` (specs/Reads.antt).
 ghost use mathlib.Core.Path.{_≡_};
-ghost use Prim.Native.Nat.{_+_, _≤_, _<_};
-ghost use Rattle.frame_bytes.specs.Bytes.{bufferBytes};
+ghost use Prim.Native.Nat.{_+_, _≤_};
 ghost use Rattle.line_text.specs.Line.{textBytes};
 ghost use Rattle.ducklines.specs.Frames.{freshRun, frameIn, framesIn, afterReadIn};
 ghost use Rattle.ducklines.specs.Reads.{AnyReads};
@@ -30,8 +29,8 @@ pub fn fresh_run() -> Run
 }
 
 // Frame i of the buffer; its line goes behind those of the frames before it.
-fn frame(run: Run, buffer: &[u8; BUFFER], i: usize, text: &mut [u8; TEXT]) -> Run
-    requires { ⌜ (i < 16) × (run .end + 64 ≤ textBytes) ⌝ }
+fn frame(run: Run, buffer: &[u8; BUFFER], i: u16, text: &mut [u8; TEXT]) -> Run
+    requires { ⌜ run .end + 64 ≤ textBytes ⌝ }
     ensures { λ r. ⌜ record { run = r; bytes = now (text .exit) } ≡ frameIn run (now (buffer .entry)) i (now (text .entry)) ⌝ }
 {
     let key = frame_bytes::key(buffer, i);
@@ -42,18 +41,18 @@ fn frame(run: Run, buffer: &[u8; BUFFER], i: usize, text: &mut [u8; TEXT]) -> Ru
     Run {
         chain,
         number: std::num::wrapping_add_u64(run.number, 1),
-        end: line_text::frame(text, run.end, run.number, outcome),
+        end: line_text::frame(text, run.end as u16, run.number, outcome),
     }
 }
 
 // The frames at the start of the buffer; their lines, at the start of the text.
-fn frames(run: Run, buffer: &[u8; BUFFER], count: usize, text: &mut [u8; TEXT]) -> Run
+fn frames(run: Run, buffer: &[u8; BUFFER], count: u16, text: &mut [u8; TEXT]) -> Run
     requires { ⌜ count ≤ 16 ⌝ }
     ensures { λ r. ⌜ record { run = r; bytes = now (text .exit) } ≡ framesIn run (now (buffer .entry)) count (now (text .entry)) ⌝ }
 {
     let mut s = run;
     s.end = 0;
-    let mut i: usize = 0;
+    let mut i: u16 = 0;
     while i < count {
         s = frame(s, buffer, i, text);
         i += 1;
@@ -67,15 +66,15 @@ pub struct Next {
     pub held: usize,
 }
 
-// What a read leads to: `held` bytes are at the start of the buffer. The whole frames among them get their lines, and what is left goes to the
-// start. The caller shows that the buffer holds so many.
+// What a read leads to: `held` bytes are at the start of the buffer, or all of it where that is fewer. The whole frames among them get their
+// lines, and what is left goes to the start.
 pub fn after_read(run: Run, buffer: &mut [u8; BUFFER], held: usize, text: &mut [u8; TEXT]) -> Next
-    requires { ⌜ held ≤ bufferBytes ⌝ }
     ensures { λ r. ⌜ record { next = r; buffer = now (buffer .exit); text = now (text .exit) } ≡ afterReadIn run (now (buffer .entry)) held (now (text .entry)) ⌝ }
 {
-    let count = held / FRAME;
+    let there = sequence::least(held, BUFFER);
+    let count = (there / FRAME) as u16;
     let next = frames(run, buffer, count, text);
-    let left = frame_bytes::keep(buffer, count, held);
+    let left = frame_bytes::keep(buffer, count, there);
     Next {
         run: next,
         held: left,

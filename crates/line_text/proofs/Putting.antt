@@ -1,11 +1,13 @@
 -- Bytes put into a lent text, one run behind another.
 use mathlib.Core.Path.{_≡_, sym, ap, _∙_}
 use mathlib.Core.List.{List, _++_}
-use Prim.Native.Nat.{ℕ, _+_}
+use Prim.Native.Nat.{ℕ, _+_, _-_, _≤_, min}
 use native.Mathlib.Nat.{add-assoc}
-use lib.ListN.{length, length-append}
+use native.Mathlib.Decide.{decLe}
+use native.Mathlib.Omega.{arith}
+use lib.ListN.{length, take, length-append}
 use Rattle.blocks.specs.Lists.{Laid}
-use Rattle.blocks.proofs.Lists.{laid-append}
+use Rattle.blocks.proofs.Lists.{laid-append, laid-cut, finish}
 use Rattle.line_text.specs.Line.{Text, putAt}
 
 -- a text, and the place after what was put into it
@@ -15,6 +17,13 @@ text t end = record { bytes = t; end = end }
 -- t′ is the text t with xs put at a place, and `end` the place after them
 pub record Put (t : List ℕ) (at : ℕ) (xs t′ : List ℕ) (end : ℕ) : Type 0 where
   pub is : text t′ end ≡ putAt t at xs
+
+-- all are put where the first k are: the others, if there are any, have no place
+pub placed-all : {t t′ : List ℕ} {at k : ℕ} (xs : List ℕ) → Laid t at (take k xs) t′ → min (length xs) (length t - at) ≤ k → Laid t at xs t′
+placed-all {t} {t′} {at} {k} xs p h = elim (decLe (length xs) k) [
+  | yes g ↦ finish xs p g
+  | no g ↦ record { is = p .is ∙ laid-cut t at k xs (omega arith) }
+]
 
 -- what a callee promises
 pub promised : (t : List ℕ) (at : ℕ) (xs t′ : List ℕ) (end : ℕ) → text t′ end ≡ putAt t at xs → Put t at xs t′ end

@@ -1,10 +1,10 @@
 // duckline's lines (specs/Line.antt), put into a text that is lent.
 ghost use mathlib.Core.Path.{_≡_};
-ghost use Prim.Native.Nat.{_+_, _≤_};
+ghost use Prim.Native.Nat.{_+_, _-_, _^_, _≤_, min};
 ghost use mathlib.Core.List.{_++_};
 ghost use lib.ListN.{length};
 ghost use Rattle.program.specs.Text.{ascii};
-ghost use Rattle.line_text.specs.Line.{textBytes, decimal, line, stateName, activeName, hundredthsOf, answerWords, lineOf, shortLine, putAt};
+ghost use Rattle.line_text.specs.Line.{decimal, line, stateName, activeName, hundredthsOf, answerWords, lineOf, shortLine, putAt};
 use chain::Answer;
 use chain::Outcome;
 use comis::mix_state::MixState;
@@ -12,22 +12,35 @@ use comis::mix_state::MixState;
 // Bytes of the lines of 16 frames: at most 64 a line.
 pub const TEXT: usize = 1024;
 
-// Puts bytes at a place of the text, and answers the place after them.
+// How many of n bytes have a place in the text from `at` on.
+fn placed(text: &[u8], at: usize, n: usize) -> usize
+    ensures { λ r. ⌜ r ≡ min n (length (now (text .entry)) - at) ⌝ }
+{
+    let places = text.len();
+    if places < at {
+        return 0;
+    }
+    sequence::least(n, places - at)
+}
+
+// Puts bytes at a place of the text, and answers the place after them. What has no place in the text is dropped. Here and below the
+// caller shows that places don't wrap.
 fn put(text: &mut [u8; TEXT], at: usize, bytes: &[u8]) -> usize
-    requires { ⌜ at + length (now bytes) ≤ textBytes ⌝ }
+    requires { ⌜ at + length (now bytes) ≤ 2 ^ 32 ⌝ }
     ensures { λ r. ⌜ record { bytes = now (text .exit); end = r } ≡ putAt (now (text .entry)) at (now (bytes .entry)) ⌝ }
 {
+    let count = placed(text, at, bytes.len());
     let mut k: usize = 0;
-    while k < bytes.len() {
+    while k < count {
         text[at + k] = bytes[k];
         k += 1;
     }
-    at + k
+    at + bytes.len()
 }
 
 // A number: at most 20 bytes.
 fn put_number(text: &mut [u8; TEXT], at: usize, n: u64) -> usize
-    requires { ⌜ at + 20 ≤ textBytes ⌝ }
+    requires { ⌜ at + 20 ≤ 2 ^ 32 ⌝ }
     ensures { λ r. ⌜ record { bytes = now (text .exit); end = r } ≡ putAt (now (text .entry)) at (decimal n) ⌝ }
 {
     let mut digits = [0u8; 20];
@@ -37,7 +50,7 @@ fn put_number(text: &mut [u8; TEXT], at: usize, n: u64) -> usize
 
 // A state's name between two spaces: at most 11 bytes.
 fn put_state(text: &mut [u8; TEXT], at: usize, state: MixState) -> usize
-    requires { ⌜ at + 11 ≤ textBytes ⌝ }
+    requires { ⌜ at + 11 ≤ 2 ^ 32 ⌝ }
     ensures { λ r. ⌜ record { bytes = now (text .exit); end = r } ≡ putAt (now (text .entry)) at (ascii " " ++ ascii (stateName state) ++ ascii " ") ⌝ }
 {
     match state {
@@ -50,7 +63,7 @@ fn put_state(text: &mut [u8; TEXT], at: usize, state: MixState) -> usize
 
 // Whether speech is active, and a space.
 fn put_active(text: &mut [u8; TEXT], at: usize, active: bool) -> usize
-    requires { ⌜ at + 2 ≤ textBytes ⌝ }
+    requires { ⌜ at + 2 ≤ 2 ^ 32 ⌝ }
     ensures { λ r. ⌜ record { bytes = now (text .exit); end = r } ≡ putAt (now (text .entry)) at (ascii (activeName active) ++ ascii " ") ⌝ }
 {
     if active {
@@ -75,7 +88,7 @@ fn hundredths(reduction: f64) -> u64
 
 // What follows a frame's number: at most 36 bytes.
 fn put_answer(text: &mut [u8; TEXT], at: usize, a: Answer) -> usize
-    requires { ⌜ at + 36 ≤ textBytes ⌝ }
+    requires { ⌜ at + 36 ≤ 2 ^ 32 ⌝ }
     ensures { λ r. ⌜ record { bytes = now (text .exit); end = r } ≡ putAt (now (text .entry)) at (ascii " " ++ line (answerWords a)) ⌝ }
 {
     let status = a.status;
@@ -88,12 +101,11 @@ fn put_answer(text: &mut [u8; TEXT], at: usize, a: Answer) -> usize
     put(text, end, b"\n")
 }
 
-// A frame's line, at most 64 bytes. The caller shows that there is room.
-pub fn frame(text: &mut [u8; TEXT], at: usize, number: u64, outcome: Outcome) -> usize
-    requires { ⌜ at + 64 ≤ textBytes ⌝ }
+// A frame's line, at most 64 bytes.
+pub fn frame(text: &mut [u8; TEXT], at: u16, number: u64, outcome: Outcome) -> usize
     ensures { λ r. ⌜ record { bytes = now (text .exit); end = r } ≡ putAt (now (text .entry)) at (lineOf number outcome) ⌝ }
 {
-    let middle = put_number(text, at, number);
+    let middle = put_number(text, at as usize, number);
     match outcome {
         Outcome::Passed(a) => put_answer(text, middle, a),
         Outcome::Refused(refusal) => {

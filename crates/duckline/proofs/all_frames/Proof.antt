@@ -35,15 +35,10 @@ add-after-read : tie.Need-add-after-read Inv-loop μ-loop
 add-after-read c = omega (arith, brought _ _ _ (c .before .before .got .given .1) (c .before .before .before .before .read .ensures .0))
 
 after-read-requires : tie.Need-after-read-requires Inv-loop μ-loop
-after-read-requires c κs = omega (arith, brought _ _ _ (c .before .before .before .got .given .1) (c .before .before .before .before .before .read .ensures .0))
+after-read-requires c κs = search needs
 
 write-requires : tie.Need-write-requires Inv-loop μ-loop
-write-requires c κs =
-    omega (
-      arith,
-      read-end _ _ _ _ _ (c .before .before .after-read .ensures),
-      brought _ _ _ (c .before .before .before .before .before .before .got .given .1) (c .before .before .before .before .before .before .before .before .read .ensures .0),
-    )
+write-requires c κs = omega (arith, read-end _ _ _ _ _ (c .before .before .after-read .ensures))
 
 sub-turns : tie.Need-sub-turns Inv-loop μ-loop
 sub-turns c = search needs

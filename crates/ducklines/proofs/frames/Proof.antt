@@ -21,7 +21,7 @@ loop-holds c = (omega arith, search needs, frames-zero _ _ _)
 frame-requires : tie.Need-frame-requires Inv-loop μ-loop
 frame-requires c κs =
     let l = c .before .before .loop in
-    (omega arith, omega (arith, c .before .loop-test .taken, l .inv .1, frames-end _ _ _ _ _ (l .inv .2)))
+    omega (arith, c .before .loop-test .taken, l .inv .1, frames-end _ _ _ _ _ (l .inv .2))
 
 add-i : tie.Need-add-i Inv-loop μ-loop
 add-i c = search needs

@@ -1,10 +1,11 @@
 -- `keep` meets its contract: the first k of the bytes that are left are laid, and those from place k on are as they were.
-use Prim.Native.Nat.{_+_, _-_, _*_, _≤_}
+use Prim.Native.Nat.{ℕ, _+_, _-_, _*_, _≤_, min}
 use native.Mathlib.Omega.{arith}
-use mathlib.Core.Path.{_≡_, refl}
+use mathlib.Core.Path.{_≡_, refl, ap, _∙_}
+use mathlib.Core.List.{List}
 use lib.ListN.{length, take, drop}
 use borrow.Author.Needs.{needs}
-use Rattle.blocks.specs.Lists.{Laid}
+use Rattle.blocks.specs.Lists.{laid, Laid}
 use Rattle.blocks.proofs.Lists.{none-yet, turn-first, finish, laid-length}
 use Rattle.detector.proofs.Lay.{rest-turn}
 use Rattle.frame_bytes.proofs.Kept.{kept-byte, kept-length}
@@ -13,20 +14,26 @@ use Rattle.frame_bytes.proofs.keep.Statement.{statement}
 use Rattle.frame_bytes.proofs.keep.Tie as tie
 
 abbrev Inv-loop : tie.InvT-loop
-Inv-loop buffer₀ count held first left k₀ buffer k =
-    (k ≤ left) × (first + left ≤ length buffer₀) × Laid buffer₀ 0 (take k (take left (drop first buffer₀))) buffer × (drop k buffer ≡ drop k buffer₀)
+Inv-loop buffer₀ count held first left moved k₀ buffer k =
+    (k ≤ moved) × (moved ≡ min left (length buffer₀ - first)) × Laid buffer₀ 0 (take k (take left (drop first buffer₀))) buffer × (drop k buffer ≡ drop k buffer₀)
 
 abbrev μ-loop : tie.MeasureT-loop
-μ-loop buffer₀ count held first left k₀ buffer k = left - k
+μ-loop buffer₀ count held first left moved k₀ buffer k = moved - k
 
 mul-first : tie.Need-mul-first Inv-loop μ-loop
 mul-first c = search needs
 
-sub-left : tie.Need-sub-left Inv-loop μ-loop
-sub-left c = search needs
+behind-requires : tie.Need-behind-requires Inv-loop μ-loop
+behind-requires c κs = search needs
+
+behind-requires-2 : tie.Need-behind-requires-2 Inv-loop μ-loop
+behind-requires-2 c κs = search needs
+
+least-requires : tie.Need-least-requires Inv-loop μ-loop
+least-requires c κs = search needs
 
 loop-holds : tie.Need-loop-holds Inv-loop μ-loop
-loop-holds c = (omega arith, search needs, none-yet _ _, refl)
+loop-holds c = (omega arith, c .least .ensures ∙ ap (min _) (c .before .behind2 .ensures), none-yet _ _, refl)
 
 add-buffer : tie.Need-add-buffer Inv-loop μ-loop
 add-buffer c = search needs
@@ -46,13 +53,13 @@ loop-less c = search needs
 loop-again : tie.Need-loop-again Inv-loop μ-loop
 loop-again c =
     let l = c .before .before .loop in
-    let a = c .before .before .before .args in
+    let a = c .before .before .before .before .before .before .before .args in
+    let left = c .before .before .before .before .before .behind .result in
     let b = a .buffer .now in
-    let first = a .count * 3840 in
-    let left = a .held - first in (
+    let first = a .count * 3840 in (
       omega arith,
       l .inv .1,
-      turn-first (take left (drop first b)) (l .inv .2) (omega (arith, kept-length b first left (omega arith))) (kept-byte (l .buffer) b (l .k) first left (l .inv .3) (omega arith)),
+      turn-first (take left (drop first b)) (l .inv .2) (omega (arith, kept-length b first left)) (kept-byte (l .buffer) b (l .k) first left (l .inv .3) (omega arith)),
       rest-turn (l .buffer) b _ (l .k) (l .inv .3),
     )
 
@@ -63,11 +70,13 @@ returns : tie.Need-returns Inv-loop μ-loop
 unfolding keptOf
 returns c =
     let l = c .before .loop in
-    let a = c .before .before .args in
+    let a = c .before .before .before .before .before .before .args in
+    let left = c .before .before .before .before .behind in
     let b = a .buffer .now in
     let first = a .count * 3840 in
-    let left = a .held - first in
-    λ i. record { bytes = finish {k = l .k} (take left (drop first b)) (l .inv .2) (omega (arith, kept-length b first left (omega arith))) .is i; held = left }
+    let laid-all = finish {k = l .k} (take (left .result) (drop first b)) (l .inv .2) (omega (arith, kept-length b first (left .result))) in
+    (λ i. record { bytes = laid-all .is i; held = left .result })
+    ∙ (λ i. record { bytes = laid b 0 (take (left .ensures i) (drop first b)); held = left .ensures i })
 
 pub keep-spec : {M : Type 1} → statement M
 keep-spec =
@@ -76,7 +85,9 @@ keep-spec =
     Inv-loop
     μ-loop
     mul-first
-    sub-left
+    behind-requires
+    behind-requires-2
+    least-requires
     loop-holds
     add-buffer
     slice-read-buffer

@@ -18,7 +18,7 @@ enum-known-outcome : tie.Need-enum-known-outcome
 enum-known-outcome c = search needs
 
 put-answer-requires : tie.Need-put-answer-requires
-put-answer-requires c κs = omega (arith, decimal-end _ _ _ _ _ (c .before .before .before .before .put-number .ensures), c .before .before .before .before .before .before .pre)
+put-answer-requires c κs = omega (arith, decimal-end _ _ _ _ _ (c .before .before .before .before .put-number .ensures), c .before .before .before .before .before .before .fits .at)
 
 enum-known-outcome-2 : tie.Need-enum-known-outcome-2
 enum-known-outcome-2 c = search needs
@@ -27,19 +27,19 @@ slice-aggregate-put : tie.Need-slice-aggregate-put
 slice-aggregate-put c = search needs
 
 put-requires : tie.Need-put-requires
-put-requires c κs = omega (arith, decimal-end _ _ _ _ _ (c .before .before .before .before .before .put-number .ensures), c .before .before .before .before .before .before .before .pre)
+put-requires c κs = omega (arith, decimal-end _ _ _ _ _ (c .before .before .before .before .before .put-number .ensures), c .before .before .before .before .before .before .before .fits .at)
 
 number-requires : tie.Need-number-requires
 number-requires c κs = search needs
 
 put-number-requires-2 : tie.Need-put-number-requires-2
-put-number-requires-2 c κs = omega (arith, decimal-end _ _ _ _ _ (c .before .before .before .before .before .before .before .before .put-number .ensures), bytes-end _ _ _ _ _ (c .before .before .put .ensures), c .before .before .before .before .before .before .before .before .before .before .pre)
+put-number-requires-2 c κs = omega (arith, decimal-end _ _ _ _ _ (c .before .before .before .before .before .before .before .before .put-number .ensures), bytes-end _ _ _ _ _ (c .before .before .put .ensures), c .before .before .before .before .before .before .before .before .before .before .fits .at)
 
 slice-aggregate-put-2 : tie.Need-slice-aggregate-put-2
 slice-aggregate-put-2 c = search needs
 
 put-requires-2 : tie.Need-put-requires-2
-put-requires-2 c κs = omega (arith, decimal-end _ _ _ _ _ (c .before .before .before .before .before .before .before .before .before .before .before .put-number .ensures), bytes-end _ _ _ _ _ (c .before .before .before .before .before .put .ensures), decimal-end _ _ _ _ _ (c .before .before .put-number2 .ensures), c .before .before .before .before .before .before .before .before .before .before .before .before .before .pre)
+put-requires-2 c κs = omega (arith, decimal-end _ _ _ _ _ (c .before .before .before .before .before .before .before .before .before .before .before .put-number .ensures), bytes-end _ _ _ _ _ (c .before .before .before .before .before .put .ensures), decimal-end _ _ _ _ _ (c .before .before .put-number2 .ensures), c .before .before .before .before .before .before .before .before .before .before .before .before .before .fits .at)
 
 returns : tie.Need-returns
 unfolding lineOf
