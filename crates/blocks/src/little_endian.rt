@@ -93,8 +93,8 @@ fn store(b: &mut [u8], i: usize, k: usize, v: u8)
     b[i + k] = v;
 }
 
-// Two and four bytes from place i + k on.
-fn write2(b: &mut [u8], i: usize, k: usize, w: u64)
+// What fits of two and four bytes from place i + k on.
+fn fit2(b: &mut [u8], i: usize, k: usize, w: u64)
     requires { ⌜ (k < 8) × (w < 65536) ⌝ }
     ensures { λ _. ⌜ Laid (now (b .entry)) (i + k) (bytes2 w) (now (b .exit)) ⌝ }
 {
@@ -102,18 +102,43 @@ fn write2(b: &mut [u8], i: usize, k: usize, w: u64)
     store(b, i, k + 1, (w / 256) as u8);
 }
 
-fn write4(b: &mut [u8], i: usize, k: usize, w: u64)
+fn fit4(b: &mut [u8], i: usize, k: usize, w: u64)
     requires { ⌜ (k ≤ 4) × (w < 4294967296) ⌝ }
     ensures { λ _. ⌜ Laid (now (b .entry)) (i + k) (bytes4 w) (now (b .exit)) ⌝ }
 {
-    write2(b, i, k, w % 65536);
-    write2(b, i, k + 2, w / 65536);
+    fit2(b, i, k, w % 65536);
+    fit2(b, i, k + 2, w / 65536);
+}
+
+// Two and four bytes from place i on, which all fit. Of halves the compiler makes one write.
+fn write2(b: &mut [u8], i: usize, w: u64)
+    requires { ⌜ (i + 2 ≤ length (now b)) × (w < 65536) ⌝ }
+    ensures { λ _. ⌜ Laid (now (b .entry)) i (bytes2 w) (now (b .exit)) ⌝ }
+{
+    b[i] = (w % 256) as u8;
+    b[i + 1] = (w / 256) as u8;
+}
+
+fn write4(b: &mut [u8], i: usize, w: u64)
+    requires { ⌜ (i + 4 ≤ length (now b)) × (w < 4294967296) ⌝ }
+    ensures { λ _. ⌜ Laid (now (b .entry)) i (bytes4 w) (now (b .exit)) ⌝ }
+{
+    write2(b, i, w % 65536);
+    write2(b, i + 2, w / 65536);
 }
 
 // The eight bytes of a word, from place i on.
 pub fn write8(b: &mut [u8], i: usize, w: u64)
     ensures { λ _. ⌜ Laid (now (b .entry)) i (bytes8 w) (now (b .exit)) ⌝ }
 {
-    write4(b, i, 0, w % 4294967296);
-    write4(b, i, 4, w / 4294967296);
+    let n = b.len();
+    if 8 <= n {
+        if i <= n - 8 {
+            write4(b, i, w % 4294967296);
+            write4(b, i + 4, w / 4294967296);
+            return;
+        }
+    }
+    fit4(b, i, 0, w % 4294967296);
+    fit4(b, i, 4, w / 4294967296);
 }

@@ -1,40 +1,34 @@
 -- `little_endian::write2` meets its contract.
-use mathlib.Core.Path.{refl}
 use native.Mathlib.Omega.{arith}
-use Rattle.blocks.proofs.Lists.{next}
+use native.Mathlib.Numerals.{add-one}
+use lib.ListN.{length-set}
+use Rattle.blocks.specs.Lists.{laid}
 use borrow.Author.Needs.{needs}
 use Rattle.blocks.proofs.little_endian.write2.Statement.{statement}
 use Rattle.blocks.proofs.little_endian.write2.Tie as tie
 
-cast-store : tie.Need-cast-store
-cast-store c = search needs
+cast-b : tie.Need-cast-b
+cast-b c = search needs
 
-store-requires : tie.Need-store-requires
-store-requires c κs = search needs
+slice-write-b : tie.Need-slice-write-b
+slice-write-b c = search needs
 
-add-store : tie.Need-add-store
-add-store c = search needs
+cast-b-2 : tie.Need-cast-b-2
+cast-b-2 c = search needs
 
-cast-store-2 : tie.Need-cast-store-2
-cast-store-2 c = search needs
+add-b : tie.Need-add-b
+add-b c = search needs
 
-store-requires-2 : tie.Need-store-requires-2
-store-requires-2 c κs = search needs
+slice-write-b-2 : tie.Need-slice-write-b-2
+slice-write-b-2 c = simp length-set (omega arith)
 
 same-length : tie.Need-same-length
 same-length c = search needs
 
 returns : tie.Need-returns
-returns c = next (c .before .before .before .before .before .before .store .ensures) refl (omega arith) (c .before .before .store2 .ensures)
+unfolding laid
+returns c = record { is = rw add-one }
 
 pub write2-spec : {M : Type 1} → statement M
 write2-spec =
-    tie.close
-    (tie.spec
-    cast-store
-    store-requires
-    add-store
-    cast-store-2
-    store-requires-2
-    same-length
-    returns)
+    tie.close (tie.spec cast-b slice-write-b cast-b-2 add-b slice-write-b-2 same-length returns)

@@ -1,6 +1,5 @@
 -- `little_endian::write4` meets its contract.
 use mathlib.Core.Path.{refl}
-use native.Mathlib.Omega.{arith}
 use Rattle.blocks.specs.Words.{bytes4}
 use Rattle.blocks.proofs.Lists.{next}
 use borrow.Author.Needs.{needs}
@@ -21,7 +20,7 @@ same-length c = search needs
 
 returns : tie.Need-returns
 unfolding bytes4
-returns c = next (c .before .before .before .before .before .before .write2 .ensures) refl (omega arith) (c .before .before .write22 .ensures)
+returns c = next (c .before .before .before .before .before .before .write2 .ensures) refl refl (c .before .before .write22 .ensures)
 
 pub write4-spec : {M : Type 1} → statement M
 write4-spec = tie.close (tie.spec write2-requires add-write2 write2-requires-2 same-length returns)
