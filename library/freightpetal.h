@@ -52,8 +52,9 @@ enum freightpetal_state {
  * multiple of 0.1 or 0.01, halves away from zero. dBFS is 10 log10 of the mean square, 0 for a square wave at full scale, at least -120. */
 struct freightpetal_strand {
     uint64_t active;           /* flag: there is speech, by probability, threshold and hold */
-    double probability;        /* that there is speech, 0 to 1, not rounded. Each frame has one of its own, made of the last four numbers
-                                  here, or 0 while gated; this one goes half of the way up to it, or a fifth of the way down */
+    double probability;        /* that there is speech, 0 to 1 unless an image of another maker held one beyond; not rounded. Each frame
+                                  has one of its own, made of the last four numbers here, or 0 while gated; this one goes half of
+                                  the way up to it, or a fifth of the way down */
     uint64_t has_speech_level; /* flag: there was speech since the last reset */
     double speech_level_dbfs;  /* level of the frames with speech, a mean over about 1 s of them, in tenths; it stays while there is none */
     double level_dbfs;         /* level of this frame, not rounded */
