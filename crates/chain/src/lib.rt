@@ -170,19 +170,15 @@ impl Chain {
         requires { ⌜ Whole (now key) (now bed) ⌝ }
         ensures { λ r. ⌜ r ≡ workOf self (now (key .entry)) (now (bed .entry)) ⌝ }
     {
-        let settings = self.settings;
-        let duck = settings.duck;
-        let loops = self.loops;
         let xs = detector::samples(key);
         let ys = detector::samples(bed);
         let s = self.strand_frames(&xs, &ys);
         let k = s.key;
         let b = s.bed;
-        let d = ratio::frame(loops, duck, inputs(k, b));
         Worked {
             key: k,
             bed: b,
-            duck: d,
+            duck: ratio::frame(self.loops, self.settings.duck, inputs(k, b)),
         }
     }
 
@@ -263,17 +259,10 @@ impl Chain {
                 verdict: Verdict::Refused(Refusal::BadSetting),
             };
         }
-        let settings = settings::stored(s);
-        let key = self.key;
-        let bed = self.bed;
-        let loops = self.loops;
+        let mut chain = self;
+        chain.settings = settings::stored(s);
         Changed {
-            chain: Chain {
-                settings,
-                key,
-                bed,
-                loops,
-            },
+            chain,
             verdict: Verdict::Passed,
         }
     }
@@ -282,31 +271,18 @@ impl Chain {
     pub fn reset(self, strand: u64) -> Changed
         ensures { λ r. ⌜ r ≡ resetOf self strand ⌝ }
     {
-        let settings = self.settings;
-        let key = self.key;
-        let bed = self.bed;
-        let loops = self.loops;
+        let mut chain = self;
         if strand == 0 {
-            let anew = key.reset();
+            chain.key = self.key.reset();
             return Changed {
-                chain: Chain {
-                    settings,
-                    key: anew,
-                    bed,
-                    loops,
-                },
+                chain,
                 verdict: Verdict::Passed,
             };
         }
         if strand == 1 {
-            let anew = bed.reset();
+            chain.bed = self.bed.reset();
             return Changed {
-                chain: Chain {
-                    settings,
-                    key,
-                    bed: anew,
-                    loops,
-                },
+                chain,
                 verdict: Verdict::Passed,
             };
         }

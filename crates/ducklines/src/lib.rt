@@ -1,10 +1,9 @@
 // What bytes that were read lead to: the frames among them run through a chain, and each gets a line (specs/Frames.antt). That the text doesn't
-// depend on how the input is cut into reads is promised by `any_reads` (specs/Reads.antt).
+// depend on how the input is cut into reads is specs/Reads.antt, which `promises` holds.
 ghost use mathlib.Core.Path.{_≡_};
 ghost use Prim.Native.Nat.{_+_, _≤_};
 ghost use Rattle.line_text.specs.Line.{textBytes};
 ghost use Rattle.ducklines.specs.Frames.{freshRun, frameIn, framesIn, afterReadIn};
-ghost use Rattle.ducklines.specs.Reads.{AnyReads};
 use chain::Chain;
 use frame_bytes::BUFFER;
 use frame_bytes::FRAME;
@@ -80,8 +79,3 @@ pub fn after_read(run: Run, buffer: &mut [u8; BUFFER], held: usize, text: &mut [
         held: left,
     }
 }
-
-// The text doesn't depend on how many bytes a read brings. The function does nothing: its contract is the promise.
-pub fn any_reads()
-    ensures { λ _. ⌜ AnyReads ⌝ }
-{}

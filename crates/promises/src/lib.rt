@@ -12,6 +12,7 @@ ghost use Rattle.freightpetal.specs.Images.{ImageLaws};
 ghost use Rattle.freightpetal_c.specs.Laws.{LentLaws};
 ghost use Rattle.dead_units.specs.Dead as chains;
 ghost use Rattle.freightpetal.specs.Dead as savers;
+ghost use Rattle.ducklines.specs.Reads.{AnyReads};
 ghost use Rattle.promises.specs.StandIns.{StandIns};
 ghost use Rattle.promises.specs.Loudness.{Loudness};
 ghost use Rattle.promises.specs.Voice.{Voice};
@@ -58,6 +59,11 @@ pub fn dead_units()
 // Nor does one that writes one fixed image, or leaves a chain as it is at every restore.
 pub fn dead_images()
     ensures { λ _. ⌜ savers.NoDeadUnits ⌝ }
+{}
+
+// The text that duckline writes doesn't depend on how many bytes a read brings.
+pub fn any_reads()
+    ensures { λ _. ⌜ AnyReads ⌝ }
 {}
 
 // ---- its parts

@@ -112,14 +112,10 @@ fn lay(to: &mut [u64], at: usize, words: &[u64])
 pub fn answer(a: Answer) -> [u64; 41]
     ensures { λ r. ⌜ r ≡ answerWords a ⌝ }
 {
-    let reduction = a.reduction;
-    let duck = a.status;
-    let key = a.key;
-    let bed = a.bed;
     let mut to = [0u64; 41];
-    lay(&mut to, 0, &status(reduction, duck));
-    lay(&mut to, 13, &strand(key));
-    lay(&mut to, 27, &strand(bed));
+    lay(&mut to, 0, &status(a.reduction, a.status));
+    lay(&mut to, 13, &strand(a.key));
+    lay(&mut to, 27, &strand(a.bed));
     to
 }
 

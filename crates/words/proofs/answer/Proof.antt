@@ -44,7 +44,7 @@ lay-requires-3 c κs = search needs
 
 returns : tie.Need-returns
 returns c =
-    whole (c .before .before .before .before .before .before .before .before .before .before .before .before .before .before .before .before .before .before .before .args .a) (search needs) (c .before .before .before .before .before .before .before .before .before .before .before .before .before .status .ensures) (c .before .before .before .before .before .before .before .before .strand .ensures) (c .before .before .before .strand2 .ensures)
+    whole (c .before .before .before .before .before .before .before .before .before .before .before .before .before .before .before .args .a) (search needs) (c .before .before .before .before .before .before .before .before .before .before .before .before .before .status .ensures) (c .before .before .before .before .before .before .before .before .strand .ensures) (c .before .before .before .strand2 .ensures)
     (c .before .before .before .before .before .before .before .before .before .before .before .lay .ensures) (c .before .before .before .before .before .before .lay2 .ensures) (c .before .lay3 .ensures)
 
 pub answer-spec : {M : Type 1} → statement M

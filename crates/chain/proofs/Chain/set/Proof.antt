@@ -19,7 +19,7 @@ stored-requires c κs = search needs
 returns-2 : tie.Need-returns-2
 unfolding setOf
 returns-2 c =
-    simp (sym (c .before .before .before .before .before .outside-call .ensures), sym (c .before .before .before .stored .ensures), c .before .before .before .before .if1 .left)
+    simp (sym (c .before .before .outside-call .ensures), sym (c .stored .ensures), c .before .if1 .left)
 
 pub set-spec : {M : Type 1} → statement M
 set-spec = tie.close (tie.spec outside-call-requires returns stored-requires returns-2)

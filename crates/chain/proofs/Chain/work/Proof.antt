@@ -24,8 +24,8 @@ frame-requires c κs = search needs
 returns : tie.Need-returns
 unfolding workOf strandFramesOf
 returns c =
-    let a = c .before .before .before .before .before .before .before .before .before .before .before .before .before .before .args in
-    let w = c .before .before .before .before .before .before .before .before .before .before .before .before .before .before .pre in
+    let a = c .before .before .before .before .before .before .before .before .before .before .before .args in
+    let w = c .before .before .before .before .before .before .before .before .before .before .before .pre in
     simp (
       c .frame .ensures,
       c .before .inputs .ensures,

@@ -1,7 +1,7 @@
 -- `any_reads` meets its contract.
 use Rattle.ducklines.proofs.Cut.{any-reads}
-use Rattle.ducklines.proofs.any_reads.Statement.{statement}
-use Rattle.ducklines.proofs.any_reads.Tie as tie
+use Rattle.promises.proofs.any_reads.Statement.{statement}
+use Rattle.promises.proofs.any_reads.Tie as tie
 
 returns : tie.Need-returns
 returns c = any-reads
