@@ -83,9 +83,9 @@ like-new = record {
 
 -- ---- a strand's reading
 
-reading-same : (t : Strand) (v : RustVad) → vad.Agrees t v → (xs : List Float) (s : VadSettings) → meterReading (v .level) xs ≡ strand.frameOf t xs s .reading
+reading-same : (t : Strand) (v : RustVad Meter) → vad.Agrees t v → (xs : List Float) (s : VadSettings) → meterReading (v .level) xs ≡ strand.frameOf t xs s .reading
 unfolding strand.frameOf strand.finishOf
-reading-same t v a xs s = ap (λ (m : Meter). meterReading m xs) (a .level) ∙ sym (level-deque-reading (t .level) xs (a .places))
+reading-same t v a xs s = ap (λ (m : Meter). meterReading m xs) (a .level .meter) ∙ sym (level-deque-reading (t .level) xs (a .level .places))
 
 -- ---- a frame
 

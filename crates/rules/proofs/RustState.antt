@@ -13,7 +13,7 @@ use Rattle.sequence.specs.Counted.{Counted}
 use Rattle.sequence.proofs.Counted.{counted-length, counted-filled}
 use Rattle.float.specs.Arithmetic.{zero64}
 use Rattle.level.specs.declared.Level.{Level}
-use Rattle.level.specs.Deque.{Meter, meterOf}
+use Rattle.level.specs.Deque.{Meter}
 use Rattle.level.specs.Valid as level
 use Rattle.detector.specs.declared.floor.Floor.{Floor}
 use Rattle.detector.specs.declared.FeatureDetector.{FeatureDetector}
@@ -23,7 +23,7 @@ use Rattle.detector.specs.Valid.{FloorValid}
 use Rattle.detector.specs.Valid as detected
 use Rattle.vad.specs.declared.Strand.{Strand}
 use Rattle.vad.specs.Rust.{RustVad}
-use Rattle.vad.specs.Agrees.{Agrees}
+use Rattle.vad.specs.Agrees.{AgreesBy, Metered}
 use Rattle.vad.specs.Valid as strand
 use Rattle.comis.specs.Rust.{AutomixEngine}
 use Rattle.chain.specs.Valid.{Valid}
@@ -43,8 +43,9 @@ module _ {Good : Float → Type 0} {blank : Float} {n count : ℕ} {places : Lis
 
 -- ---- a strand's parts
 
-level-stored : (l : Level) (m : Meter) → level.Valid l → m ≡ meterOf l → l ≡ levelStored m
-level-stored l m v e =
+level-stored : (l : Level) (m : Meter) → level.Valid l → Metered l m → l ≡ levelStored m
+level-stored l m v a =
+    let e = a .meter in
     let frames : m .frames ≡ held (l .powers .count) (l .powers .list) = ap (λ (m : Meter). m .frames) e in
     λ i. record {
       shelf = sym e i .shelf;
@@ -80,9 +81,10 @@ detector-stored d r v a = λ i. record {
   history = record { count = deque-count (v .history) (r .history) (a .history) i; list = deque-places (v .history) (r .history) (a .history) i };
 }
 
-strand-stored : (t : Strand) (r : RustVad) → strand.Valid t → Agrees t r → t ≡ strandStored r
-strand-stored t r v a = λ i. record {
-  level = level-stored (t .level) (r .level) (v .level) (a .level) i;
+strand-stored : {L : Type 0} {Levels : Level → L → Type 0} (t : Strand) (r : RustVad L) (level : L → Level) → strand.Valid t → AgreesBy Levels t r → t .level ≡ level (r .level)
+    → t ≡ strandStored level r
+strand-stored t r level v a e = λ i. record {
+  level = e i;
   detector = detector-stored (t .detector) (r .detector) (v .detector) (a .detector) i;
   decision = record {
     active = sym (a .active) i;
@@ -100,7 +102,7 @@ pub rust-stores : Stores rules Valid rust rust-agrees stored
 unfolding stored
 rust-stores c m v l = λ i. record {
   settings = sym (l .settings) i;
-  key = strand-stored (c .key) (m .key) (v .key) (l .key) i;
-  bed = strand-stored (c .bed) (m .bed) (v .bed) (l .bed) i;
+  key = strand-stored (c .key) (m .key) levelStored (v .key) (l .key) (level-stored (c .key .level) (m .key .level) (v .key .level) (l .key .level)) i;
+  bed = strand-stored (c .bed) (m .bed) levelStored (v .bed) (l .bed) (level-stored (c .bed .level) (m .bed .level) (v .bed .level) (l .bed .level)) i;
   loops = ap (λ (e : AutomixEngine). loopsStored (e .loops)) (sym (l .ducker .engine)) i;
 }

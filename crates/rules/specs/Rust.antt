@@ -5,7 +5,7 @@ use lib.Dec.{eqb}
 use lib.Ieee.{Float}
 use Rattle.demands.specs.Calls.{Reference}
 use Rattle.level.specs.declared.Reading.{Reading}
-use Rattle.level.specs.Deque.{meterReading}
+use Rattle.level.specs.Deque.{Meter, meterReading}
 use Rattle.vad.specs.Rust.{RustVad, newVad, rustReset, rustPush}
 use Rattle.ratio.specs.declared.Inputs.{Inputs}
 use Rattle.comis.specs.LoopBank.{db}
@@ -17,15 +17,15 @@ use Rattle.rules.specs.Rules.{Event, frame, settings, reset, Answered, s
 
 pub record RustChain : Type 0 where
   pub settings : Settings
-  pub key : RustVad
-  pub bed : RustVad
+  pub key : RustVad Meter
+  pub bed : RustVad Meter
   pub ducker : ratio.State
 
 abbrev pub newChain : RustChain
 newChain = record { settings = freshSettings; key = newVad; bed = newVad; ducker = ratio.new freshDuck }
 
 -- the strands after a frame, with what their levels read of it
-abbrev pub rustInputs : RustVad → RustVad → Reading → Reading → Inputs
+abbrev pub rustInputs : RustVad Meter → RustVad Meter → Reading → Reading → Inputs
 rustInputs k b dialogue bed = record {
   «key_voice» = k .state .«speech_active»;
   «target_voice» = b .state .«speech_active»;
@@ -35,7 +35,7 @@ rustInputs k b dialogue bed = record {
   «bed_fast» = bed .fast;
 }
 
-abbrev pub rustRun : RustChain → RustVad → RustVad → Reading → Reading → RustChain
+abbrev pub rustRun : RustChain → RustVad Meter → RustVad Meter → Reading → Reading → RustChain
 rustRun m k b dialogue bed =
     record { settings = m .settings; key = k; bed = b; ducker = ratio.frame (m .ducker) (m .settings .duck) (rustInputs k b dialogue bed) }
 
@@ -54,10 +54,10 @@ rustAnswer m = record { reduction = db (m .ducker .reduction); status = m .ducke
 abbrev pub withSettings : RustChain → Settings → RustChain
 withSettings m s = record { settings = s; key = m .key; bed = m .bed; ducker = m .ducker }
 
-abbrev pub withKey : RustChain → RustVad → RustChain
+abbrev pub withKey : RustChain → RustVad Meter → RustChain
 withKey m v = record { settings = m .settings; key = v; bed = m .bed; ducker = m .ducker }
 
-abbrev pub withBed : RustChain → RustVad → RustChain
+abbrev pub withBed : RustChain → RustVad Meter → RustChain
 withBed m v = record { settings = m .settings; key = m .key; bed = v; ducker = m .ducker }
 
 abbrev pub feed : RustChain → Event → RustChain

@@ -49,7 +49,7 @@ detectorStored d = record {
   history = record { count = length (d .history); list = filled zero64 40 (d .history) };
 }
 
-abbrev pub decisionStored : RustVad → Decision
+abbrev pub decisionStored : {L : Type 0} → RustVad L → Decision
 decisionStored v = record {
   active = v .state .«speech_active»;
   probability = v .state .«speech_probability»;
@@ -59,11 +59,12 @@ decisionStored v = record {
   power = v .speechPower;
 }
 
-abbrev pub strandStored : RustVad → Strand
-strandStored v = record { level = levelStored (v .level); detector = detectorStored (v .detector); decision = decisionStored v }
+-- with its level as stored
+abbrev pub strandStored : {L : Type 0} → (L → Level) → RustVad L → Strand
+strandStored level v = record { level = level (v .level); detector = detectorStored (v .detector); decision = decisionStored v }
 
 abbrev pub loopsStored : LoopBank → Loops
 loopsStored b = record { slow = db (b .slow); mid = db (b .mid); fast = db (b .fast); «hold_remaining_seconds» = b .hold }
 
 unfoldable pub stored : RustChain → Chain
-stored m = record { settings = m .settings; key = strandStored (m .key); bed = strandStored (m .bed); loops = loopsStored (m .ducker .engine .loops) }
+stored m = record { settings = m .settings; key = strandStored levelStored (m .key); bed = strandStored levelStored (m .bed); loops = loopsStored (m .ducker .engine .loops) }

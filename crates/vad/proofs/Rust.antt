@@ -11,7 +11,9 @@ use Rattle.power.specs.Power.{exp10Of}
 use Rattle.level.specs.Level as level
 use Rattle.float.specs.Arithmetic.{zero64}
 use Rattle.float.specs.AllFinite.{allFinite}
-use Rattle.level.specs.Deque.{Meter, meterOf, meterNext, meterReading}
+use Rattle.level.specs.declared.Level.{Level}
+use Rattle.level.specs.declared.Reading.{Reading}
+use Rattle.level.specs.Deque.{Meter, newMeter, meterNext, meterReading}
 use Rattle.level.proofs.Deque.{level-deque, level-deque-reading, level-places}
 use Rattle.detector.specs.Detector as detector
 use Rattle.detector.specs.Rust.{rustFrame}
@@ -27,8 +29,8 @@ use Rattle.detector.specs.declared.Heard.{Heard}
 use Rattle.vad.specs.Decision.{flagOf, more, heardOf, smoothedOf, offOf, onsetOf, heldOf, offsetOf, switchOf, meanOf, withPower, withProbability, exponent, voicedOf, decideOf}
 use Rattle.vad.specs.State.{speechLevelOf, stateOf, numbersOf}
 use Rattle.vad.specs.Strand.{gatedOf, nextOf, freshOf, finishOf, frameOf, stoppedOf, resetOf}
-use Rattle.vad.specs.Rust.{RustVad, newVad, rustReset, Switch, switch, rustSwitch, Speech, speech, rustSpeech, rustDecide, rustPush}
-use Rattle.vad.specs.Agrees.{Agrees, Call, frame, reset, called, rustCalled, Accepted, StrandAgrees, StrandAnswers}
+use Rattle.vad.specs.Rust.{RustVad, newWith, resetWith, newVad, rustReset, Switch, switch, rustSwitch, Speech, speech, rustSpeech, rustDecide, rustPush}
+use Rattle.vad.specs.Agrees.{AgreesBy, Metered, Agrees, Call, frame, reset, called, rustCalled, Accepted, StrandAgrees, StrandAnswers}
 
 -- ---- the decision
 
@@ -115,12 +117,11 @@ module _ (d : Decision) (probability dbfs : Float) (s : VadSettings) where
       voices half dbfs
       ∙ ap₂ (λ (t : Switch) (o : SpeechPower). rustSpeech (t .active) (record { power = o; level = speechLevelOf o }) dbfs) (half-is .switched) (half-is .power)
 
--- ---- a frame
+-- ---- a frame, whose level is read as l and as the Rust's r and m
 
-module _ (t : Strand) (v : RustVad) (a : Agrees t v) (xs : List Float) (n : length xs ≡ 480) (s : VadSettings) (ok : T (frameOf t xs s .finite)) where
-  abbrev l : metered.Framed
-  l = level.frameOf (t .level) xs
-
+module _ {L : Type 0} {Before : Level → L → Type 0} (t : Strand) (v : RustVad L) (a : AgreesBy Before t v) (xs : List Float) (n : length xs ≡ 480) (s : VadSettings)
+    (l : metered.Framed) (r : Reading) (m : L) (same-reading : r ≡ l .reading)
+    (ok : T (finishOf (t .decision) l (detector.frameOf (t .detector) xs) s .finite)) where
   abbrev h : Heard
   h = detector.frameOf (t .detector) xs
 
@@ -128,18 +129,12 @@ module _ (t : Strand) (v : RustVad) (a : Agrees t v) (xs : List Float) (n : leng
   d = nextOf (t .decision) l h s
 
   heard-finite : T (h .finite)
-  unfolding frameOf finishOf
+  unfolding finishOf
   heard-finite =
       and-r (l .finite) (h .finite) (and-l (l .finite && h .finite) (allFinite (numbersOf d (stateOf d (gatedOf l s) (h .frame) (l .reading)))) ok)
 
   frame-same : rustFrame (v .detector) xs .frame ≡ h .frame
   frame-same = detected.frame-shown (t .detector) (v .detector) (a .detector) xs n heard-finite
-
-  reading-same : meterReading (v .level) xs ≡ l .reading
-  reading-same = ap (λ (m : Meter). meterReading m xs) (a .level) ∙ sym (level-deque-reading (t .level) xs (a .places))
-
-  next-level : meterNext (v .level) xs ≡ meterOf (l .level)
-  next-level = ap (λ (m : Meter). meterNext m xs) (a .level) ∙ sym (level-deque (t .level) xs (a .places))
 
   abbrev q : Float
   q = heardOf (gatedOf l s) (h .frame .probability)
@@ -147,32 +142,34 @@ module _ (t : Strand) (v : RustVad) (a : Agrees t v) (xs : List Float) (n : leng
   abbrev dbfs : Float
   dbfs = h .frame .«level_dbfs»
 
+  abbrev rustAfter : RustVad L
+  rustAfter = rustDecide v (rustFrame (v .detector) xs) r s m
+
   -- the Rust's state after the frame
-  abbrev after : RustVad
+  abbrev after : RustVad L
   after = record {
     detector = rustFrame (v .detector) xs .state;
     state = stateOf d (gatedOf l s) (h .frame) (l .reading);
     hold = d .hold;
     speechPower = d .power;
-    level = meterOf (l .level);
+    level = m;
   }
 
-  decided : rustPush v xs s ≡ after
-  unfolding rustPush rustDecide stateOf heardOf
+  decided : rustAfter ≡ after
+  unfolding rustDecide stateOf heardOf
   decided =
-      rw (frame-same, reading-same, next-level, a .probability, a .active, a .onsets, a .offsets, a .hold, a .power, a .speechLevel)
+      rw (frame-same, same-reading, a .probability, a .active, a .onsets, a .offsets, a .hold, a .power, a .speechLevel)
       (rw (← decide-speech (t .decision) q dbfs s, ← decide-switch (t .decision) q dbfs s, ← decide-probability (t .decision) q dbfs s))
 
-  pub push-state : rustPush v xs s .state ≡ frameOf t xs s .state
-  unfolding frameOf finishOf
-  push-state = ap (λ (r : RustVad). r .state) decided
+  pub decide-state : rustAfter .state ≡ finishOf (t .decision) l h s .state
+  unfolding finishOf
+  decide-state = ap (λ (r : RustVad L). r .state) decided
 
-  pub push-agrees : Agrees (frameOf t xs s .strand) (rustPush v xs s)
-  unfolding frameOf finishOf stateOf
-  push-agrees = rw decided
+  pub decide-agrees : (After : Level → L → Type 0) → After (l .level) m → AgreesBy After (finishOf (t .decision) l h s .strand) rustAfter
+  unfolding finishOf stateOf
+  decide-agrees After next-level = rw decided
       (record {
-        level = refl;
-        places = level-places (t .level) xs (a .places);
+        level = next-level;
         detector = detected.frame-agrees (t .detector) (v .detector) (a .detector) xs n heard-finite;
         active = refl;
         probability = refl;
@@ -183,16 +180,42 @@ module _ (t : Strand) (v : RustVad) (a : Agrees t v) (xs : List Float) (n : leng
         speechLevel = refl;
       })
 
+-- of one channel
+module _ (t : Strand) (v : RustVad Meter) (a : Agrees t v) (xs : List Float) (n : length xs ≡ 480) (s : VadSettings) (ok : T (frameOf t xs s .finite)) where
+  abbrev own : metered.Framed
+  own = level.frameOf (t .level) xs
+
+  pub reading-same : meterReading (v .level) xs ≡ own .reading
+  reading-same = ap (λ (m : Meter). meterReading m xs) (a .level .meter) ∙ sym (level-deque-reading (t .level) xs (a .level .places))
+
+  metered-next : Metered (own .level) (meterNext (v .level) xs)
+  metered-next = record {
+    meter = ap (λ (m : Meter). meterNext m xs) (a .level .meter) ∙ sym (level-deque (t .level) xs (a .level .places));
+    places = level-places (t .level) xs (a .level .places);
+  }
+
+  fine : T (finishOf (t .decision) own (detector.frameOf (t .detector) xs) s .finite)
+  unfolding frameOf
+  fine = ok
+
+  pub push-state : rustPush v xs s .state ≡ frameOf t xs s .state
+  unfolding frameOf rustPush
+  push-state = decide-state t v a xs n s own (meterReading (v .level) xs) (meterNext (v .level) xs) reading-same fine
+
+  pub push-agrees : Agrees (frameOf t xs s .strand) (rustPush v xs s)
+  unfolding frameOf rustPush
+  push-agrees = decide-agrees t v a xs n s own (meterReading (v .level) xs) (meterNext (v .level) xs) reading-same fine Metered metered-next
+
 -- ---- fresh, and a reset
 
 fresh-places : length level.zeros ≡ 300
 unfolding level.zeros
 fresh-places = length-replicate 300 zero64
 
-pub fresh-agrees : Agrees freshOf newVad
-fresh-agrees = record {
-  level = refl;
-  places = fresh-places;
+-- a level's new form is the Rust's
+pub new-agrees : {L : Type 0} {After : Level → L → Type 0} (l : L) → After level.freshOf l → AgreesBy After freshOf (newWith l)
+new-agrees l new = record {
+  level = new;
   detector = detected.fresh-agrees;
   active = refl;
   probability = refl;
@@ -203,11 +226,11 @@ fresh-agrees = record {
   speechLevel = unfold speechLevelOf in refl;
 }
 
-pub reset-agrees : (t : Strand) (v : RustVad) → Agrees t v → Agrees (resetOf t) (rustReset v)
-unfolding resetOf stoppedOf rustReset
-reset-agrees t v a = record {
-  level = refl;
-  places = fresh-places;
+pub anew-agrees : {L : Type 0} {Before After : Level → L → Type 0} (t : Strand) (v : RustVad L) (l : L) → AgreesBy Before t v → After level.freshOf l
+    → AgreesBy After (resetOf t) (resetWith l v)
+unfolding resetOf stoppedOf resetWith
+anew-agrees t v l a new = record {
+  level = new;
   detector = detected.fresh-agrees;
   active = refl;
   probability = refl;
@@ -218,9 +241,18 @@ reset-agrees t v a = record {
   speechLevel = unfold speechLevelOf in refl;
 }
 
+fresh-metered : Metered level.freshOf newMeter
+fresh-metered = record { meter = refl; places = fresh-places }
+
+pub fresh-agrees : Agrees freshOf newVad
+fresh-agrees = new-agrees newMeter fresh-metered
+
+pub reset-agrees : (t : Strand) (v : RustVad Meter) → Agrees t v → Agrees (resetOf t) (rustReset v)
+reset-agrees t v a = anew-agrees t v newMeter a fresh-metered
+
 -- ---- any list of these
 
-agrees-after : (cs : List Call) (t : Strand) (v : RustVad) → Agrees t v → Accepted t cs → Agrees (foldl called t cs) (foldl rustCalled v cs)
+agrees-after : (cs : List Call) (t : Strand) (v : RustVad Meter) → Agrees t v → Accepted t cs → Agrees (foldl called t cs) (foldl rustCalled v cs)
 agrees-after [] t v a ok = a
 agrees-after (frame xs s ∷ cs) t v a ok =
     agrees-after cs (frameOf t xs s .strand) (rustPush v xs s) (push-agrees t v a xs (ok .0) s (ok .1 .0)) (ok .1 .1)

@@ -16,11 +16,13 @@ use Rattle.float.specs.Choice.{minOf}
 use Rattle.power.specs.Power.{above, floorOf, powAt, thousand, log2Ten, exp2Of, exp10Of}
 use Rattle.float.specs.Arithmetic.{zero64}
 use Rattle.float.specs.AllFinite.{allFinite}
-use Rattle.level.specs.Level as level
+use Rattle.level.specs.Level as level-spec
+use Rattle.level.specs.Valid as level
 use Rattle.level.specs.declared.Framed as metered
 use Rattle.level.proofs.Finite.{all-at}
 use Rattle.level.proofs.Valid as levels
-use Rattle.detector.specs.Detector as detector
+use Rattle.detector.specs.Detector as detector-spec
+use Rattle.detector.specs.Valid as detector
 use Rattle.detector.specs.declared.Heard.{Heard}
 use Rattle.detector.proofs.Valid as detectors
 use Rattle.vad.specs.declared.VadSettings.{VadSettings}
@@ -225,33 +227,42 @@ reset-valid t v =
     plain : (n : ℕ) → n + 0 ≡ n
     plain n = omega arith
 
-module _ (t : Strand) (v : Valid t) (xs : List Float) (s : VadSettings) (within : HoldWithin s) (ok : T (frameOf t xs s .finite)) (room : frameOf t xs s .full ≡ false) where
-  abbrev l : metered.Framed
-  l = level.frameOf (t .level) xs
-
-  abbrev h : Heard
-  h = detector.frameOf (t .detector) xs
-
-  abbrev d : Decision
-  d = nextOf (t .decision) l h s
+-- what follows level and detector, whatever they are
+module _ (d : Decision) (v : DecisionValid d) (l : metered.Framed) (h : Heard) (s : VadSettings) (within : HoldWithin s)
+    (ok : T (finishOf d l h s .finite)) (room : finishOf d l h s .full ≡ false) where
+  abbrev after : Decision
+  after = nextOf d l h s
 
   abbrev numbers : List Float
-  numbers = numbersOf d (stateOf d (gatedOf l s) (h .frame) (l .reading))
+  numbers = numbersOf after (stateOf after (gatedOf l s) (h .frame) (l .reading))
 
-  both : T ((l .finite && h .finite) && allFinite numbers)
-  unfolding frameOf finishOf
-  both = ok
+  all : T ((l .finite && h .finite) && allFinite numbers)
+  unfolding finishOf
+  all = ok
 
   number : (k : ℕ) → k < 11 → T (finite (getD numbers k nan))
-  number k b = all-at numbers k (and-r (l .finite && h .finite) (allFinite numbers) both) b
+  number k b = all-at numbers k (and-r (l .finite && h .finite) (allFinite numbers) all) b
 
   front : T (l .finite && h .finite)
-  front = and-l (l .finite && h .finite) (allFinite numbers) both
+  front = and-l (l .finite && h .finite) (allFinite numbers) all
 
-  pub frame-valid : Valid (frameOf t xs s .strand)
-  unfolding frameOf finishOf
-  frame-valid = record {
-    level = levels.frame-valid (t .level) xs (v .level) (and-l (l .finite) (h .finite) front);
-    detector = detectors.frame-valid (t .detector) xs (v .detector) (and-r (l .finite) (h .finite) front);
-    decision = decide-valid (t .decision) (v .decision) (heardOf (gatedOf l s) (h .frame .probability)) (h .frame .«level_dbfs») s within (number 0 (omega arith)) (number 1 (omega arith)) room;
+  pub level-finite : T (l .finite)
+  level-finite = and-l (l .finite) (h .finite) front
+
+  pub finish-valid : level.Valid (l .level) → (T (h .finite) → detector.Valid (h .detector)) → Valid (finishOf d l h s .strand)
+  unfolding finishOf
+  finish-valid level-valid detector-valid = record {
+    level = level-valid;
+    detector = detector-valid (and-r (l .finite) (h .finite) front);
+    decision = decide-valid d v (heardOf (gatedOf l s) (h .frame .probability)) (h .frame .«level_dbfs») s within (number 0 (omega arith)) (number 1 (omega arith)) room;
   }
+
+pub frame-valid : (t : Strand) → Valid t → (xs : List Float) (s : VadSettings) → HoldWithin s → T (frameOf t xs s .finite) → frameOf t xs s .full ≡ false
+    → Valid (frameOf t xs s .strand)
+unfolding frameOf
+frame-valid t v xs s within ok room =
+    let l = level-spec.frameOf (t .level) xs in
+    let h = detector-spec.frameOf (t .detector) xs in
+    finish-valid (t .decision) (v .decision) l h s within ok room
+    (levels.frame-valid (t .level) xs (v .level) (level-finite (t .decision) (v .decision) l h s within ok room))
+    (detectors.frame-valid (t .detector) xs (v .detector))

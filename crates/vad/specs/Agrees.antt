@@ -5,7 +5,8 @@ use lib.Dec.{T}
 use lib.ListN.{length}
 use lib.Ieee.{Float}
 use Rattle.level.specs.Bs1770.{frameLength, shortTermFrames}
-use Rattle.level.specs.Deque.{meterOf}
+use Rattle.level.specs.declared.Level.{Level}
+use Rattle.level.specs.Deque.{Meter, meterOf}
 use Rattle.detector.specs.Agrees as detector
 use Rattle.vad.specs.declared.VadSettings.{VadSettings}
 use Rattle.vad.specs.declared.Strand.{Strand}
@@ -13,9 +14,9 @@ use Rattle.vad.specs.State.{speechLevelOf}
 use Rattle.vad.specs.Strand.{freshOf, frameOf, resetOf}
 use Rattle.vad.specs.Rust.{RustVad, newVad, rustReset, rustPush}
 
-pub record Agrees (t : Strand) (v : RustVad) : Type 0 where
-  pub level : v .level ≡ meterOf (t .level)
-  pub places : length (t .level .powers .list) ≡ shortTermFrames
+-- where the levels agree as `Levels` says
+pub record AgreesBy {L : Type 0} (Levels : Level → L → Type 0) (t : Strand) (v : RustVad L) : Type 0 where
+  pub level : Levels (t .level) (v .level)
   pub detector : detector.Agrees (t .detector) (v .detector)
   pub active : v .state .«speech_active» ≡ t .decision .active
   pub probability : v .state .«speech_probability» ≡ t .decision .probability
@@ -24,6 +25,14 @@ pub record Agrees (t : Strand) (v : RustVad) : Type 0 where
   pub hold : v .hold ≡ t .decision .hold
   pub power : v .speechPower ≡ t .decision .power
   pub speechLevel : v .state .«speech_level» ≡ speechLevelOf (t .decision .power)
+
+-- a level of one channel
+pub record Metered (l : Level) (m : Meter) : Type 0 where
+  pub meter : m ≡ meterOf l
+  pub places : length (l .powers .list) ≡ shortTermFrames
+
+abbrev pub Agrees : Strand → RustVad Meter → Type 0
+Agrees = AgreesBy Metered
 
 -- ---- lists of calls
 
@@ -35,7 +44,7 @@ abbrev pub called : Strand → Call → Strand
 called t (frame xs s) = frameOf t xs s .strand
 called t reset = resetOf t
 
-abbrev pub rustCalled : RustVad → Call → RustVad
+abbrev pub rustCalled : RustVad Meter → Call → RustVad Meter
 rustCalled v (frame xs s) = rustPush v xs s
 rustCalled v reset = rustReset v
 

@@ -20,12 +20,13 @@ use Rattle.vad.specs.Hold.{holdFrames}
 use Rattle.vad.specs.Decision.{smoothedOf, offOf, flagOf, more, meanOf, exponent}
 use Rattle.vad.specs.State.{tenthsOf, roundedOf}
 
-pub record RustVad : Type 0 where
+-- L is what the level keeps, such as the `Meter` of one channel
+pub record RustVad (L : Type 0) : Type 0 where
   pub detector : RustDetector
   pub state : VadState
   pub hold : ℕ
   pub speechPower : power.SpeechPower
-  pub level : Meter
+  pub level : L
 
 -- `VadState` with `level_dbfs` at the silence floor, and all else at its default but the counts
 abbrev pub quiet : ℕ → ℕ → VadState
@@ -42,15 +43,22 @@ quiet onsets offsets = record {
   features = record { «over_floor_db» = zero64; «modulation_db» = zero64; voicing = zero64; anti = zero64 };
 }
 
-abbrev pub silentVad : VadState → RustVad
-silentVad s = record { detector = rustFresh; state = s; hold = 0; speechPower = stored.Unset; level = newMeter }
+abbrev pub silentVad : {L : Type 0} → L → VadState → RustVad L
+silentVad l s = record { detector = rustFresh; state = s; hold = 0; speechPower = stored.Unset; level = l }
 
--- `Vad::new`, and `Vad::reset`
-abbrev pub newVad : RustVad
-newVad = silentVad (quiet 0 0)
+-- `Vad::new` with a new level, and `Vad::reset`, which makes the level anew
+abbrev pub newWith : {L : Type 0} → L → RustVad L
+newWith l = silentVad l (quiet 0 0)
 
-unfoldable pub rustReset : RustVad → RustVad
-rustReset v = silentVad (quiet (v .state .«speech_onsets») ((v .state .«speech_offsets» + flagOf (v .state .«speech_active»)) % 2 ^ 64))
+unfoldable pub resetWith : {L : Type 0} → L → RustVad L → RustVad L
+resetWith l v = silentVad l (quiet (v .state .«speech_onsets») ((v .state .«speech_offsets» + flagOf (v .state .«speech_active»)) % 2 ^ 64))
+
+-- of one channel with weight 1
+abbrev pub newVad : RustVad Meter
+newVad = newWith newMeter
+
+abbrev pub rustReset : RustVad Meter → RustVad Meter
+rustReset v = resetWith newMeter v
 
 -- ---- the decision: activity, counts and hold
 
@@ -91,7 +99,7 @@ rustSpeech active s dbfs = cond active (speech (meanOf (s .power) (exp10Of (expo
 abbrev pub gatedBy : Reading → VadSettings → Bool
 gatedBy r s = lt (r .momentary .0) (s .«gate_lufs» .0)
 
-abbrev pub rustDecided : RustHeard → Reading → VadSettings → Meter → Float → Switch → Speech → RustVad
+abbrev pub rustDecided : {L : Type 0} → RustHeard → Reading → VadSettings → L → Float → Switch → Speech → RustVad L
 rustDecided h r s m probability t sp = record {
   detector = h .state;
   state = record {
@@ -111,13 +119,13 @@ rustDecided h r s m probability t sp = record {
   level = m;
 }
 
-unfoldable pub rustDecide : RustVad → RustHeard → Reading → VadSettings → Meter → RustVad
+unfoldable pub rustDecide : {L : Type 0} → RustVad L → RustHeard → Reading → VadSettings → L → RustVad L
 rustDecide v h r s m =
     let probability = smoothedOf (v .state .«speech_probability») (cond (gatedBy r s) zero64 (h .frame .probability)) in
     let t = rustSwitch (switch (v .state .«speech_active») (v .state .«speech_onsets») (v .state .«speech_offsets») (v .hold)) probability (s .threshold) (holdFrames (s .«hold_ms»)) in
     let old : Speech = record { power = v .speechPower; level = v .state .«speech_level» } in
     rustDecided h r s m probability t (rustSpeech (t .active) old (h .frame .«level_dbfs»))
 
--- `push` with one frame
-unfoldable pub rustPush : RustVad → List Float → VadSettings → RustVad
+-- `push` with one frame of one channel
+unfoldable pub rustPush : RustVad Meter → List Float → VadSettings → RustVad Meter
 rustPush v xs s = rustDecide v (rustFrame (v .detector) xs) (meterReading (v .level) xs) s (meterNext (v .level) xs)
