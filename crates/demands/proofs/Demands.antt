@@ -4,7 +4,7 @@ use mathlib.Core.List.{List, _∷_}
 use Rattle.demands.specs.Calls.{Log, _▹_, Among, Bytes, Call, save, done, passed, gets, Rules, Images, owed, Calls, eventCalls, allCalls, Port, Reference}
 use Rattle.demands.specs.Demands.{History, Save, stateOf, Passes, Story, begins, adds, keeps, stays, returns, from, seenFrom, after, sees, ported, Told, EventDemands, Demand3a, Demand3b, Demand3c, Onwards, ruled, NoPort, Demands}
 use Rattle.demands.specs.Laws.{EventLaws, Laws, Agrees, Stores}
-use Rattle.demands.proofs.Steps.{Steps, event-steps, all-steps, image-inj}
+use Rattle.demands.proofs.Steps.{Steps, event-steps, all-steps, image-inj, accepted}
 use Rattle.demands.proofs.Lists as lists
 use Rattle.demands.proofs.Events.{events-proper}
 
@@ -63,7 +63,7 @@ module _ (R : Rules) (I : Images R) (port : Port R (allCalls R I)) (L : Laws R I
     equal = λ t t′ x x′ m m′. (same-state t t′ x x′ m m′, same-bytes t t′ x x′ m m′);
     alike = λ t t′ x x′ m m′. (
       (λ e. ap bits (same-state t t′ x x′ m m′ e)),
-      λ e. same-bytes t t′ x x′ m m′ (L .bits-inj (stateOf R (x .past)) (stateOf R (x′ .past)) (kept t x m .0) (kept t′ x′ m′ .0) e),
+      λ e. same-bytes t t′ x x′ m m′ (L .images .bits-inj (stateOf R (x .past)) (stateOf R (x′ .past)) (kept t x m .0) (kept t′ x′ m′ .0) e),
     );
   }
 
@@ -83,9 +83,9 @@ module _ (R : Rules) (I : Images R) (port : Port R (allCalls R I)) (L : Laws R I
   onwards = record {
     goes = λ cs c e k z. steps .passes (after R S port cs) c e (valid cs) k z;
     saves = λ cs c l k z. rw k (L .saved (after R S port cs) l (valid cs) (subst (λ (c : Call Event). Passes R S (after R S port cs) c) k z));
-    restores = λ cs c b k z.
-        let w = steps .accepted (after R S port cs) c b k z in
-        (w .0, w .2, steps .restored (after R S port cs) (w .0) c b (valid cs) (w .1) k (w .2));
+    restores = λ cs c b k z. accepted R I port L (after R S port cs) c b (valid cs) k z .1;
+    present = λ cs c b k z n. L .images .present b (subst (λ (c : Call Event). Passes R S (after R S port cs) c) k z) n;
+    written = λ cs. (L .images .image-size (after R S port cs) (valid cs), L .images .meaning-image (after R S port cs) (valid cs));
   }
 
   -- ---- histories without a port

@@ -40,7 +40,7 @@ module _ (R : Rules) (S : Calls R) (port : Port R S) (L : Steps R S port) where
       go : (k : Call Event) → call c ≡ k → Valid (port s c .state) × (port s c .seen .reply ≡ passed (owed R s k))
       go (event e) k = rw (L .passes s c e v k z) (L .next-valid s e v (L .rules s c e k z), refl)
       go (save l) k = rw (L .saved s c l v k z .2) (v, refl)
-      go (restore b) k = let w = L .accepted s c b k z in rw (L .restored s (w .0) c b v (w .1) k (w .2)) (w .1, refl)
+      go (restore b) k = let w = L .accepted s c b v k z in rw (w .2) (w .1, refl)
 
   step-valid : (s : State) (c : Sent) → Valid s → Valid (port s c .state)
   step-valid s c v = go (ruling s c) refl

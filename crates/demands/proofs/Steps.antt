@@ -2,13 +2,13 @@
 use mathlib.Core.Path.{_≡_, refl, sym, ap, _∙_, subst}
 use mathlib.Core.List.{[]}
 use mathlib.Core.Bool.{Bool, true, false, cond}
-use Prim.Native.Nat.{ℕ, zero, suc}
+use Prim.Native.Nat.{ℕ, suc}
 use native.Mathlib.Omega.{arith}
 use lib.ListN.{length}
 use lib.Dec.{eqb}
 use Rattle.refusal.specs.declared.Refusal.the-variants.{WrongLength}
 use Rattle.refusal.specs.Table.{InTable}
-use Rattle.demands.specs.Calls.{Bytes, Call, event, save, restore, lentBy, answer, done, Reply, refusal, passed, gets, Rules, Images, Calls, eventCalls, allCalls, Port}
+use Rattle.demands.specs.Calls.{Bytes, Call, event, save, restore, lentBy, answer, done, refusal, passed, gets, Rules, Images, Calls, eventCalls, allCalls, Port}
 use Rattle.demands.specs.Demands.{Passes, Refused}
 use Rattle.demands.specs.Laws.{EventLaws, Laws}
 
@@ -27,11 +27,13 @@ pub record Steps (R : Rules) (S : Calls R) (port : Port R S) : Type 1 where
       → port s c ≡ gets (passed (answer (R .answers s e))) [] (R .next s e)
   pub saved : (s : R .State) (c : S .Sent) (l : Bytes) → Valid s → S .call c ≡ save l → Passes R S s c
       → (b : Bytes) × Image s b × (port s c ≡ gets (passed done) b s)
-  -- a valid state's image is accepted, and gives that state; accepted bytes are a valid state's image
+  -- a valid state's image is accepted, and gives that state
   pub image-passes : (s t : R .State) (c : S .Sent) (b : Bytes) → Valid t → S .call c ≡ restore b → Image t b → Passes R S s c
   pub restored : (s t : R .State) (c : S .Sent) (b : Bytes) → Valid s → Valid t → S .call c ≡ restore b → Image t b
       → port s c ≡ gets (passed done) b t
-  pub accepted : (s : R .State) (c : S .Sent) (b : Bytes) → S .call c ≡ restore b → Passes R S s c → (t : R .State) × Valid t × Image t b
+  -- any accepted bytes give a valid state
+  pub accepted : (s : R .State) (c : S .Sent) (b : Bytes) → Valid s → S .call c ≡ restore b → Passes R S s c
+      → (t : R .State) × Valid t × (port s c ≡ gets (passed done) b t)
 
 -- ---- calls of one kind are not of another
 
@@ -67,14 +69,14 @@ module _ (R : Rules) (port : Port R (eventCalls R)) (L : EventLaws R port) where
     saved = λ s c l v k z. absurd (event-save c l refl k);
     image-passes = λ s t c b v k i. absurd i;
     restored = λ s t c b v w k i. absurd i;
-    accepted = λ s c b k z. absurd (event-restore c b refl k);
+    accepted = λ s c b v k z. absurd (event-restore c b refl k);
   }
 
 -- ---- with saves and restores
 
 module _ (R : Rules) (I : Images R) (port : Port R (allCalls R I)) (L : Laws R I port) where
-  open Rules R using (State, Event, Answer)
-  open Laws L using (events)
+  open Rules R using (State, Event)
+  open Laws L using (events, images)
 
   -- the number of a save
   save-number : (s : State) (l : Bytes) → Refused R (allCalls R I) s (save l) → InTable (allCalls R I .ruling s (save l))
@@ -94,26 +96,24 @@ module _ (R : Rules) (I : Images R) (port : Port R (allCalls R I)) (L : Laws R I
   refused s (save l) v n = L .save-refused s l v n
   refused s (restore b) v n = L .restore-refused s b v n
 
-  -- a valid state's image is accepted
-  pub image-passes : (t : State) → events .Valid t → I .refusesImage (I .image t) ≡ 0
-  image-passes t v = go (I .refusesImage (I .image t)) refl
-    where
-      go : (n : ℕ) → I .refusesImage (I .image t) ≡ n → I .refusesImage (I .image t) ≡ 0
-      go zero e = e
-      go (suc n) e =
-          let p : _≡_ {A = Reply Answer} (refusal (I .refusesImage (I .image t))) (passed done) =
-          sym (ap (λ p. p .seen .reply) (L .restore-refused t (I .image t) v (not-zero e))) ∙ ap (λ p. p .seen .reply) (L .restored t t v v) in
-          let z : _≡_ {A = ℕ} 0 1 = cc in absurd (omega arith)
-
   -- two valid states have two images
   pub image-inj : (s t : State) → events .Valid s → events .Valid t → I .image s ≡ I .image t → s ≡ t
-  image-inj s t v w e =
-      sym (ap (λ p. p .state) (L .restored s s v v))
-      ∙ ap (λ (b : Bytes). port s (restore b) .state) e
-      ∙ ap (λ p. p .state) (L .restored s t v w)
+  image-inj s t v w e = sym (images .meaning-image s v) ∙ ap (I .meaning) e ∙ images .meaning-image t w
+
+  -- a valid state's image is accepted, and gives that state
+  pub image-passes : (t : State) (b : Bytes) → events .Valid t → I .image t ≡ b → I .refusesImage b ≡ 0
+  image-passes t b w i = sym (ap (I .refusesImage) i) ∙ images .image-passes t w
 
   pub restored : (s t : State) (b : Bytes) → events .Valid s → events .Valid t → I .image t ≡ b → port s (restore b) ≡ gets (passed done) b t
-  restored s t b v w i = subst (λ (b : Bytes). port s (restore b) ≡ gets (passed done) b t) i (L .restored s t v w)
+  restored s t b v w i =
+      L .restored s b v (image-passes t b w i) ∙ ap (λ (t : State). gets (passed done) b t) (sym (ap (I .meaning) i) ∙ images .meaning-image t w)
+
+  -- any accepted bytes give what they mean
+  pub accepted : (s : State) (c : Call Event) (b : Bytes) → events .Valid s → c ≡ restore b → Passes R (allCalls R I) s c
+      → events .Valid (I .meaning b) × (port s c ≡ gets (passed done) b (I .meaning b))
+  accepted s c b v k z =
+      let p = subst (λ (c : Call Event). Passes R (allCalls R I) s c) k z in
+      (images .meaning-valid b p, rw k (L .restored s b v p))
 
   abbrev pub all-steps : Steps R (allCalls R I) port
   all-steps = record {
@@ -127,7 +127,7 @@ module _ (R : Rules) (I : Images R) (port : Port R (allCalls R I)) (L : Laws R I
     next-valid = events .next-valid;
     passes = λ s c e v k z. rw k (events .passes s e v (subst (λ (c : Call Event). Passes R (allCalls R I) s c) k z));
     saved = λ s c l v k z. (I .image s, refl, rw k (L .saved s l v (subst (λ (c : Call Event). Passes R (allCalls R I) s c) k z)));
-    image-passes = λ s t c b w k i. subst (λ (c : Call Event). Passes R (allCalls R I) s c) (sym k) (sym (ap (I .refusesImage) i) ∙ image-passes t w);
+    image-passes = λ s t c b w k i. subst (λ (c : Call Event). Passes R (allCalls R I) s c) (sym k) (image-passes t b w i);
     restored = λ s t c b v w k i. rw k (restored s t b v w i);
-    accepted = λ s c b k z. L .accepted-image b (subst (λ (c : Call Event). Passes R (allCalls R I) s c) k z);
+    accepted = λ s c b v k z. let w = accepted s c b v k z in (I .meaning b, w .0, w .1);
   }

@@ -80,9 +80,10 @@ pub record Rules : Type 1 where
 
 -- the rules of the images
 pub record Images (R : Rules) : Type 0 where
-  pub size : ℕ  -- of an image, in bytes
-  pub image : R .State → Bytes
+  pub size : ℕ  -- of an image that is saved, in bytes
+  pub image : R .State → Bytes  -- what a save writes
   pub refusesImage : Bytes → ℕ  -- an image's number in the refusal table; 0: it passes
+  pub meaning : Bytes → R .State  -- the state that accepted bytes stand for, whether or not they are its image
   pub bits : R .State → List ℕ  -- every number of the state, by its bits
 
 -- what a call gets where it passes

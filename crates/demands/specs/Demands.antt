@@ -3,6 +3,7 @@
 use mathlib.Core.Path.{_≡_}
 use mathlib.Core.List.{List, [], _∷_}
 use mathlib.Core.Logic.{_⊎_, _↔_}
+use lib.ListN.{length}
 use Rattle.refusal.specs.Table.{InTable}
 use Rattle.demands.specs.Calls.{Log, empty, _▹_, Among, Bytes, event, save, restore, lentBy, answer, done, Reply, refusal, passed, Seen, gets, Rules, Images, owed, Calls, eventCalls, allCalls, Port, Reference}
 
@@ -168,7 +169,7 @@ module _ (R : Rules) where
         pub state : SameState rust stored
 
       module _ (I : Images R) where
-        open Images I using (image, bits)
+        open Images I using (size, image, meaning, bits)
 
         -- ---- DEMAND 3. Take, from a fresh chain, any list of frames, settings, resets, saves and restores, refused ones
         -- included, in which each accepted restore brings an image saved earlier in the same list.
@@ -196,15 +197,19 @@ module _ (R : Rules) where
           pub same : (cs ds : Log Sent) (c d : Sent) (l : Bytes) → call c ≡ save l → Passes (after cs) c → call d ≡ restore (sees cs c .lent)
               → (sees ds d .reply ≡ passed done) × ((fs : Log Sent) → seenFrom (after (ds ▹ d)) fs ≡ seenFrom (after (cs ▹ c)) fs)
 
-        -- ---- The specification, "Images": from whatever chain a list of calls leaves, restores of foreign images among them,
-        -- each accepted call gives what the definitions give; a restore gives the state whose image its bytes are.
+        -- ---- The specification, "Histories and lists of calls": from whatever chain a list of calls leaves, restores of foreign
+        -- images among them, each accepted call gives what the definitions give; a restore gives the state that its bytes mean.
         pub record Onwards : Type 0 where
           pub goes : (cs : Log Sent) (c : Sent) (e : Event) → call c ≡ event e → Passes (after cs) c
               → port (after cs) c ≡ gets (passed (answer (answers (after cs) e))) [] (next (after cs) e)
           pub saves : (cs : Log Sent) (c : Sent) (l : Bytes) → call c ≡ save l → Passes (after cs) c
               → port (after cs) c ≡ gets (passed done) (image (after cs)) (after cs)
           pub restores : (cs : Log Sent) (c : Sent) (b : Bytes) → call c ≡ restore b → Passes (after cs) c
-              → (t : State) × (image t ≡ b) × (port (after cs) c ≡ gets (passed done) b t)
+              → port (after cs) c ≡ gets (passed done) b (meaning b)
+          -- Accepted bytes as long as an image that is saved are the image of the state that they mean.
+          pub present : (cs : Log Sent) (c : Sent) (b : Bytes) → call c ≡ restore b → Passes (after cs) c → length b ≡ size → image (meaning b) ≡ b
+          -- The chain's image has that length, and means the chain.
+          pub written : (cs : Log Sent) → (length (image (after cs)) ≡ size) × (meaning (image (after cs)) ≡ after cs)
 
         -- ---- A history needs no port: a list has the same histories if each save writes what the rules say.
         pub record NoPort : Type 0 where

@@ -1,6 +1,7 @@
 -- What a product proves of its functions, call by call. From these laws the demands follow for whole lists.
 use mathlib.Core.Path.{_≡_}
 use mathlib.Core.List.{[]}
+use lib.ListN.{length}
 use Rattle.refusal.specs.Table.{InTable}
 use Rattle.demands.specs.Calls.{Bytes, event, save, restore, answer, done, refusal, passed, gets, Rules, Images, eventCalls, rulingOf, allCalls, Port, Reference}
 
@@ -20,23 +21,31 @@ module _ (R : Rules) where
     pub refused : (s : State) (e : Event) → Valid s → (refuses s e ≡ 0 → ⊥) → port s e ≡ gets (refusal (refuses s e)) [] s
     pub passes : (s : State) (e : Event) → Valid s → refuses s e ≡ 0 → port s e ≡ gets (passed (answer (answers s e))) [] (next s e)
 
-  -- ---- with saves and restores
   module _ (I : Images R) where
-    open Images I using (image, refusesImage, bits)
+    open Images I using (size, image, refusesImage, meaning, bits)
 
+    -- ---- the images of the valid states, and what accepted bytes mean
+    pub record SaveLaws (Valid : State → Type 0) : Type 0 where
+      -- the bits of a valid state tell it from any other
+      pub bits-inj : (s t : State) → Valid s → Valid t → bits s ≡ bits t → s ≡ t
+      -- its image has the size of images, is accepted, and means it (so two valid states have two images)
+      pub image-size : (s : State) → Valid s → length (image s) ≡ size
+      pub image-passes : (s : State) → Valid s → refusesImage (image s) ≡ 0
+      pub meaning-image : (s : State) → Valid s → meaning (image s) ≡ s
+      -- accepted bytes mean a valid state; those of that size are its image
+      pub meaning-valid : (b : Bytes) → refusesImage b ≡ 0 → Valid (meaning b)
+      pub present : (b : Bytes) → refusesImage b ≡ 0 → length b ≡ size → image (meaning b) ≡ b
+
+    -- ---- with saves and restores
     pub record Laws (port : Port R (allCalls R I)) : Type 1 where
       pub events : EventLaws (λ s e. port s (event e))
-      -- the bits of a valid state tell it from any other
-      pub bits-inj : (s t : State) → events .Valid s → events .Valid t → bits s ≡ bits t → s ≡ t
-      -- accepted bytes are a valid state's image
-      pub accepted-image : (b : Bytes) → refusesImage b ≡ 0 → (s : State) × events .Valid s × (image s ≡ b)
+      pub images : SaveLaws (events .Valid)
       pub image-number : (b : Bytes) → (refusesImage b ≡ 0 → ⊥) → InTable (refusesImage b)
       -- the port
       pub save-refused : (s : State) (l : Bytes) → events .Valid s → (rulingOf R I s (save l) ≡ 0 → ⊥) → port s (save l) ≡ gets (refusal (rulingOf R I s (save l))) l s
       pub saved : (s : State) (l : Bytes) → events .Valid s → rulingOf R I s (save l) ≡ 0 → port s (save l) ≡ gets (passed done) (image s) s
       pub restore-refused : (s : State) (b : Bytes) → events .Valid s → (refusesImage b ≡ 0 → ⊥) → port s (restore b) ≡ gets (refusal (refusesImage b)) b s
-      -- (from this and `restore-refused`: a valid state's image is accepted, and two valid states have two images)
-      pub restored : (s t : State) → events .Valid s → events .Valid t → port s (restore (image t)) ≡ gets (passed done) (image t) t
+      pub restored : (s : State) (b : Bytes) → events .Valid s → refusesImage b ≡ 0 → port s (restore b) ≡ gets (passed done) b (meaning b)
 
   -- ---- a reference keeps step with the rules, accepted event by accepted event
   pub record Agrees (Valid : State → Type 0) (M : Reference R) : Type 1 where

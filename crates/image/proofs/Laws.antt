@@ -169,8 +169,8 @@ module _ {Answer : Type 0} (s : Chain) where
       go true q h = absurd (h refl)
       go false q h = rw q
 
-  pub restored : (t : Chain) → Valid t → _≡_ {A = Step Chain Answer} (onRestore s (image t)) (gets (passed done) (image t) t)
-  restored t v = ap (λ (r : Changed). gets (replyOf (r .verdict)) (image t) (r .chain)) (restore-image s t v)
+  pub restored : (b : List ℕ) → refusesImage b ≡ 0 → _≡_ {A = Step Chain Answer} (onRestore s b) (gets (passed done) b (readAs b))
+  restored b e = ap (λ (r : Changed). gets (replyOf (r .verdict)) b (r .chain)) (restore-accepted b s e)
 
   pub restore-refused : (b : List ℕ) → (refusesImage b ≡ 0 → ⊥) → _≡_ {A = Step Chain Answer} (onRestore s b) (gets (refusal (refusesImage b)) b s)
   restore-refused b h =
