@@ -1,7 +1,7 @@
--- The laws of the codecs of a chain: each follows from those of its parts.
-use mathlib.Core.Path.{refl}
+-- The codecs of a chain: how many words each takes, and its laws, which follow from those of its parts.
+use mathlib.Core.Path.{_≡_, refl}
 use mathlib.Core.List.{[], _∷_}
-use Prim.Native.Nat.{_^_}
+use Prim.Native.Nat.{_+_, _^_}
 use lib.ListN.{replicate}
 use lib.Dec.{T, lit<}
 use lib.Ieee.{toBits, ofBits, eq, neg, lt, fits}
@@ -10,9 +10,36 @@ use Rattle.codec.specs.Codec.{CodecLaws}
 use Rattle.codec.specs.Forms.{fixed}
 use Rattle.codec.proofs.Forms.{f64-laws, flag-laws, one-laws, fixed-laws, pair-laws, as-a-laws, also-laws}
 use Rattle.settings.specs.Settings.{outsideOf, outsideStrand, outsideDuck, outsideSettings, freshSettings}
+use Rattle.strand_image.specs.Strand.{strand, front, state, filters, powers, decimated, floor, smoothed, window, minima, history, decision, counts, power}
 use Rattle.strand_image.proofs.Codecs.{strand-laws}
-use Rattle.image.specs.Layout.{edition, unusedWords}
-use Rattle.image.specs.Chain.{strandSettings, fromDuck, toDuck, duck, signedOf, signedStrand, signedDuck, signedSettings, settingsRule, numbers, settings, loops, chain}
+use Rattle.image.specs.Layout.{edition, payloadWords, bodyWords, unusedWords}
+use Rattle.image.specs.Chain.{strandSettings, fromDuck, toDuck, duck, signedOf, signedStrand, signedDuck, signedSettings, settingsRule, numbers, settings, loops, body, chain}
+
+-- ---- how many words
+
+pub size-strand-settings : strandSettings .size ≡ 3
+unfolding strandSettings
+size-strand-settings = refl
+
+pub size-settings : settings .size ≡ 12
+unfolding settings numbers strandSettings duck
+size-settings = refl
+
+pub size-strand : strand .size ≡ 628
+unfolding strand front state filters powers decimated floor smoothed window minima history decision counts power
+size-strand = refl
+
+size-loops : loops .size ≡ 4
+unfolding loops
+size-loops = refl
+
+pub size-body : body .size ≡ bodyWords
+unfolding body
+size-body = λ i. size-settings i + (size-strand i + (size-strand i + size-loops i))
+
+pub size-chain : chain .size ≡ payloadWords
+unfolding chain
+size-chain = λ i. 1 + (size-body i + unusedWords)
 
 -- ---- settings
 
@@ -48,6 +75,12 @@ pub loops-laws : CodecLaws loops
 unfolding loops
 loops-laws = as-a-laws _ _ (λ a. refl) (λ b. refl) (pair-laws (one-laws f64-laws) (pair-laws (one-laws f64-laws) (pair-laws (one-laws f64-laws) (one-laws f64-laws))))
 
+-- ---- the body
+
+pub body-laws : CodecLaws body
+unfolding body
+body-laws = as-a-laws _ _ (λ a. refl) (λ b. refl) (pair-laws settings-laws (pair-laws strand-laws (pair-laws strand-laws loops-laws)))
+
 -- ---- the chain
 
 pub edition-laws : CodecLaws (fixed (edition ∷ []))
@@ -59,4 +92,4 @@ unused-laws = fixed-laws (replicate unusedWords 0) (below-replicate (2 ^ 64) unu
 pub chain-laws : CodecLaws chain
 unfolding chain
 chain-laws = as-a-laws _ _ (λ a. refl) (λ b. refl)
-    (pair-laws edition-laws (pair-laws settings-laws (pair-laws strand-laws (pair-laws strand-laws (pair-laws loops-laws unused-laws)))))
+    (pair-laws edition-laws (pair-laws body-laws unused-laws))

@@ -23,19 +23,18 @@ use Rattle.chain.specs.declared.Changed.{Changed}
 use Rattle.chain.specs.Chain.{changed, unchanged}
 use Rattle.chain.specs.Valid.{Valid}
 use Rattle.image.specs.Layout.{blockCount, imageBytes, payloadWords}
-use Rattle.image.specs.Chain.{strandSettings, duck, numbers, settings, loops, chain}
+use Rattle.image.specs.Chain.{chain}
 use Rattle.image.specs.Image.{wordsOf, image, readAs, ours, rightLength, rightChecks, refusesImage, saveVerdict, savedIn, restoreOf}
 use Rattle.image.specs.Port.{replyOf, onSave, onRestore, refusesSave}
-use Rattle.strand_image.specs.Strand.{strand, front, state, filters, powers, decimated, floor, smoothed, window, minima, history, decision, counts, power}
-use Rattle.image.proofs.Codecs.{chain-laws}
+use Rattle.image.proofs.Codecs.{size-chain, chain-laws}
 use Rattle.image.proofs.Valid.{chain-valid, valid-chain}
 
 -- ---- the words of a valid chain
 
 module _ (c : Chain) (v : Valid c) where
   pub words-length : length (wordsOf c) ≡ payloadWords
-  unfolding wordsOf chain settings numbers strandSettings duck loops strand front state filters powers decimated floor smoothed window minima history decision counts power
-  words-length = chain-laws .size-is c (valid-chain c v)
+  unfolding wordsOf
+  words-length = chain-laws .size-is c (valid-chain c v) ∙ size-chain
 
   pub words-small : Words (wordsOf c)
   unfolding wordsOf

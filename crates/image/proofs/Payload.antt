@@ -1,7 +1,7 @@
 -- A payload is a valid chain's exactly where the specification's rules hold of its words.
 use mathlib.Core.Path.{_≡_, refl, sym, ap, _∙_, subst}
 use mathlib.Core.Bool.{Bool, true, false, not, cond, _&&_, _||_, Bool·beq, true≢false, false≢true}
-use mathlib.Core.List.{List, [], _∷_}
+use mathlib.Core.List.{List}
 use Prim.Native.Nat.{ℕ, zero, suc, _+_, _-_, _*_, _%_, _^_, _≤_, _<_}
 use native.Mathlib.Nat.{mul-pos}
 use native.Mathlib.Omega.{arith}
@@ -16,7 +16,7 @@ use lib.Ieee.Scale.{finite}
 use Rattle.float.specs.Arithmetic.{zero64}
 use Rattle.blocks.specs.Lists.{Words}
 use Rattle.codec.specs.Fields.{infinite, numOf}
-use Rattle.codec.specs.Codec.{Here, Codec}
+use Rattle.codec.specs.Codec.{Here}
 use Rattle.codec.proofs.Kept.{here-head, ofBits-finite}
 use Rattle.codec.specs.Forms.{f64, flag, one, fixed, pair}
 use Rattle.codec.proofs.Forms.{f64-laws, flag-laws, one-laws}
@@ -26,18 +26,18 @@ use Rattle.settings.specs.declared.Range.{Range}
 use Rattle.chain.specs.declared.Chain.{Chain}
 use Rattle.settings.specs.Settings.{imageRanges, outsideOf, outsideStrand, outsideDuck, outsideSettings, freshSettings}
 use Rattle.chain.specs.Valid.{Valid}
-use Rattle.strand_image.specs.Strand.{strand, front, state, filters, powers, decimated, floor, smoothed, window, minima, history, decision, counts, power}
+use Rattle.strand_image.specs.Strand.{strand}
 use Rattle.strand_image.specs.Words.{Finite64, Flag}
 use Rattle.codec.proofs.Again.{Iff, Reads, here-cons, here-none, reads-all, reads-pair, reads-also, kept-float}
 use Rattle.strand_image.proofs.Codecs.{strand-laws}
 use Rattle.strand_image.proofs.Words.{number, flagged, strand-words}
-use Rattle.image.specs.Layout.{edition, unusedWords, payloadWords}
-use Rattle.image.specs.Chain.{strandSettings, duck, signedOf, signedStrand, signedDuck, signedSettings, settingsRule, numbers, settings, loops, chain}
+use Rattle.image.specs.Layout.{edition, bodyWords, firstUnused, unusedWords, payloadWords}
+use Rattle.image.specs.Chain.{strandSettings, duck, signedOf, signedStrand, signedDuck, signedSettings, settingsRule, numbers, settings, loops, body, chain}
 use Rattle.image.specs.Image.{wordsOf}
 use Rattle.settings.proofs.Zero.{zero-exponent}
-use Rattle.image.specs.Words.{SettingWord, PayloadWords}
+use Rattle.image.specs.Words.{SettingWord, BodyWords, PayloadWords}
 use Rattle.image.proofs.Valid.{or-false, false-or, both-true, chain-valid, valid-chain}
-use Rattle.image.proofs.Codecs.{strand-settings-laws, numbers-laws, fresh-numbers, fresh-rule, settings-laws, loops-laws, edition-laws, chain-laws}
+use Rattle.image.proofs.Codecs.{size-strand-settings, size-settings, size-strand, size-body, size-chain, strand-settings-laws, numbers-laws, fresh-numbers, fresh-rule, settings-laws, body-laws, edition-laws, chain-laws}
 
 -- ---- negative zero
 
@@ -173,10 +173,6 @@ module _ (p : List ℕ) (s : Words p) where
             ),
       )
 
-  size-strand-settings : strandSettings .size ≡ 3
-  unfolding strandSettings
-  size-strand-settings = refl
-
   numbers-words : Iff (Reads numbers p 1) (Reads strandSettings p 1 × Reads strandSettings p 4 × Reads duck p 7)
   unfolding numbers
   numbers-words =
@@ -259,68 +255,44 @@ module _ (p : List ℕ) (s : Words p) where
         λ w. a .1 (number p s 1269 .1 (w .0), b .1 (number p s 1270 .1 (w .1), c .1 (number p s 1271 .1 (w .2), number p s 1272 .1 (w .3)))),
       )
 
-  unused-words : Iff (Here p 1273 (replicate unusedWords 0)) ((k : ℕ) → 1273 ≤ k → k < payloadWords → word k ≡ 0)
+  unused-words : Iff (Here p firstUnused (replicate unusedWords 0)) ((k : ℕ) → firstUnused ≤ k → k < payloadWords → word k ≡ 0)
   unused-words = (
     (λ h k b g.
-        let e : 1273 + (k - 1273) ≡ k = omega arith in
-        let m : k - 1273 < unusedWords = omega arith in
-        ap (λ (n : ℕ). getD p n 0) (sym e) ∙ h .at (k - 1273) (omega (arith, length-replicate {A = ℕ} unusedWords 0)) ∙ getD-replicate unusedWords (k - 1273) 0 0 m),
+        let e : firstUnused + (k - firstUnused) ≡ k = omega arith in
+        let m : k - firstUnused < unusedWords = omega arith in
+        ap (λ (n : ℕ). getD p n 0) (sym e) ∙ h .at (k - firstUnused) (omega (arith, length-replicate {A = ℕ} unusedWords 0)) ∙ getD-replicate unusedWords (k - firstUnused) 0 0 m),
     λ u. record {
       at = λ k b.
           let m : k < unusedWords = omega (arith, length-replicate {A = ℕ} unusedWords 0) in
-          u (1273 + k) (omega arith) (omega arith) ∙ sym (getD-replicate unusedWords k 0 0 m);
+          u (firstUnused + k) (omega arith) (omega arith) ∙ sym (getD-replicate unusedWords k 0 0 m);
     },
   )
 
-  -- ---- the whole payload
+  -- ---- the body
 
-  size-settings : settings .size ≡ 12
-  unfolding settings numbers strandSettings duck
-  size-settings = refl
-
-  size-strand : strand .size ≡ 628
-  unfolding strand front state filters powers decimated floor smoothed window minima history decision counts power
-  size-strand = refl
-
-  size-loops : loops .size ≡ 4
-  unfolding loops
-  size-loops = refl
-
-  abbrev last : Codec (Unit {0})
-  last = fixed (replicate unusedWords 0)
-
-  chain-parts : Iff (Reads chain p 0) (Here p 0 (edition ∷ []) × Reads settings p 1 × Reads strand p 13 × Reads strand p 641 × Reads loops p 1269 × Here p 1273 (replicate unusedWords 0))
-  unfolding chain
-  chain-parts =
-      let a = reads-pair edition-laws (pair settings (pair strand (pair strand (pair loops last)))) p 0 1 1 refl refl in
-      let b = reads-pair settings-laws (pair strand (pair strand (pair loops last))) p 1 12 13 size-settings refl in
-      let c = reads-pair strand-laws (pair strand (pair loops last)) p 13 628 641 size-strand refl in
-      let d = reads-pair strand-laws (pair loops last) p 641 628 1269 size-strand refl in
-      let e = reads-pair loops-laws last p 1269 4 1273 size-loops refl in (
-        (λ h.
-            let q = a .0 h in
-            let r = b .0 (q .1) in
-            let t = c .0 (r .1) in
-            let u = d .0 (t .1) in
-            let v = e .0 (u .1) in
-            (q .0, r .0, t .0, u .0, v .0, v .1)),
-        λ w. a .1 (w .0, b .1 (w .1, c .1 (w .2, d .1 (w .3, e .1 (w .4, w .5))))),
+  body-parts : Iff (Reads body p 1) (Reads settings p 1 × Reads strand p 13 × Reads strand p 641 × Reads loops p 1269)
+  unfolding body
+  body-parts =
+      let a = reads-pair settings-laws (pair strand (pair strand loops)) p 1 12 13 size-settings refl in
+      let b = reads-pair strand-laws (pair strand loops) p 13 628 641 size-strand refl in
+      let c = reads-pair strand-laws loops p 641 628 1269 size-strand refl in (
+        (λ h. let q = a .0 h in let r = b .0 (q .1) in let t = c .0 (r .1) in (q .0, r .0, t .0, t .1)),
+        λ w. a .1 (w .0, b .1 (w .1, c .1 (w .2, w .3))),
       )
 
-  from-parts : Reads chain p 0 → PayloadWords p
-  from-parts h =
-      let c = chain-parts .0 h in
-      let q = settings-parts .0 (c .1) in
+  from-body : Reads body p 1 → BodyWords p
+  from-body h =
+      let c = body-parts .0 h in
+      let q = settings-parts .0 (c .0) in
       let k = three-words 1 .0 (q .0 .0) in
       let b = three-words 4 .0 (q .0 .1) in
       let d = duck-words .0 (q .0 .2) in
       let fk = q .1 .0 in
       let fb = q .1 .1 in
       let fd = q .1 .2 in
-      let l = loops-words .0 (c .4) in
+      let l = loops-words .0 (c .3) in
       let r = imageRanges in
       record {
-        edition = here-head (c .0);
         key-threshold = setting-from (r .threshold) (word 1) (s 1) (k .0) (fk .0 .0) (fk .0 .1);
         key-hold-ms = setting-from (r .«hold_ms») (word 2) (s 2) (k .1) (fk .1 .0) (fk .1 .1);
         key-gate-lufs = setting-from (r .«gate_lufs») (word 3) (s 3) (k .2) (fk .2 .0) (fk .2 .1);
@@ -333,21 +305,19 @@ module _ (p : List ℕ) (s : Words p) where
         max-reduction-db = setting-from (r .«max_reduction_db») (word 10) (s 10) (d .3) (fd .2 .0) (fd .2 .1);
         speed = setting-from (r .speed) (word 11) (s 11) (d .4) (fd .3 .0) (fd .3 .1);
         bed-voice = d .5;
-        key = strand-words p s 13 .0 (c .2);
-        bed = strand-words p s 641 .0 (c .3);
+        key = strand-words p s 13 .0 (c .1);
+        bed = strand-words p s 641 .0 (c .2);
         slow = l .0;
         mid = l .1;
         fast = l .2;
         hold-remaining = l .3;
-        unused = unused-words .0 (c .5);
       }
 
-  to-parts : PayloadWords p → Reads chain p 0
-  to-parts w =
+  to-body : BodyWords p → Reads body p 1
+  to-body w =
       let r = imageRanges in
       let fine : (q : Range) (k : ℕ) → SettingWord q (word k) → Fine q k = λ q k v. (setting-outside q (word k) (s k) v, setting-signed q (word k) (s k) v) in
-      chain-parts .1 (
-        here-cons (w .edition) (here-none p 1),
+      body-parts .1 (
         settings-parts .1 (
           (
             three-words 1 .1 (w .key-threshold .finite, w .key-hold-ms .finite, w .key-gate-lufs .finite),
@@ -368,12 +338,26 @@ module _ (p : List ℕ) (s : Words p) where
         strand-words p s 13 .1 (w .key),
         strand-words p s 641 .1 (w .bed),
         loops-words .1 (w .slow, w .mid, w .fast, w .hold-remaining),
-        unused-words .1 (w .unused),
       )
 
-  size-chain : chain .size ≡ payloadWords
-  unfolding chain settings numbers strandSettings duck loops strand front state filters powers decimated floor smoothed window minima history decision counts power
-  size-chain = refl
+  -- the words from 1 on are those of some body exactly where they keep the rules
+  pub body-words : Iff (Reads body p 1) (BodyWords p)
+  body-words = (from-body, to-body)
+
+  -- ---- the whole payload
+
+  chain-words : Iff (Reads chain p 0) (PayloadWords p)
+  unfolding chain
+  chain-words =
+      let last = fixed (replicate unusedWords 0) in
+      let a = reads-pair edition-laws (pair body last) p 0 1 1 refl refl in
+      let b = reads-pair body-laws last p 1 bodyWords firstUnused size-body refl in (
+        (λ h.
+            let q = a .0 h in
+            let r = b .0 (q .1) in
+            record { edition = here-head (q .0); body = body-words .0 (r .0); unused = unused-words .0 (r .1) }),
+        λ w. a .1 (here-cons (w .edition) (here-none p 1), b .1 (body-words .1 (w .body), unused-words .1 (w .unused))),
+      )
 
   -- the words of a valid chain are those that keep the rules
   pub payload-words : length p ≡ payloadWords → Iff (PayloadWords p) ((c : Chain) × Valid c × (wordsOf c ≡ p))
@@ -381,6 +365,6 @@ module _ (p : List ℕ) (s : Words p) where
   payload-words e =
       let a = reads-all chain-laws p (e ∙ sym size-chain) in
       let b = accepted chain-laws p in (
-        (λ w. let c = b .1 (a .0 (to-parts w)) in (c .0, chain-valid (c .0) (c .1), c .2)),
-        λ c. from-parts (a .1 (b .0 (c .0, valid-chain (c .0) (c .1), c .2))),
+        (λ w. let c = b .1 (a .0 (chain-words .1 w)) in (c .0, chain-valid (c .0) (c .1), c .2)),
+        λ c. chain-words .0 (a .1 (b .0 (c .0, valid-chain (c .0) (c .1), c .2))),
       )

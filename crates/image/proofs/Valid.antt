@@ -17,10 +17,11 @@ use Rattle.settings.specs.declared.Ranges.{Ranges}
 use Rattle.chain.specs.declared.Chain.{Chain}
 use Rattle.settings.specs.Settings.{imageRanges, outsideOf, outsideStrand, outsideDuck, outsideSettings, zeroedOf}
 use Rattle.chain.specs.Valid.{Valid}
+use Rattle.vad.specs.Valid as vad
 use Rattle.settings.specs.Valid.{SettingValid, StrandSettingsValid, DuckValid, SettingsValid}
 use Rattle.strand_image.proofs.Codecs.{zero-bits}
 use Rattle.strand_image.proofs.Valid.{strand-valid, valid-strand}
-use Rattle.image.specs.Chain.{strandSettings, duck, signedOf, signedStrand, signedDuck, signedSettings, numbers, settings, loops, chain}
+use Rattle.image.specs.Chain.{strandSettings, duck, signedOf, signedStrand, signedDuck, signedSettings, numbers, settings, loops, Base, body, baseOf, chain}
 
 -- ---- tests
 
@@ -143,7 +144,7 @@ valid-settings s v =
     let g : ((signedStrand (s .key) || signedStrand (s .bed)) || signedDuck (s .duck)) ≡ false = false-or (false-or (k .2) (b .2)) (d .2) in
     ((k .0, (b .0, d .0)), (rw (o, g) tt))
 
--- ---- the chain
+-- ---- the body
 
 loops-valid : (l : Loops) → loops .Ok l → LoopsStored l
 unfolding loops
@@ -153,21 +154,32 @@ valid-loops : (l : Loops) → LoopsStored l → loops .Ok l
 unfolding loops
 valid-loops l v = (v .slow, (v .mid, (v .fast, v .hold)))
 
+pub record BaseValid (b : Base) : Type 0 where
+  pub settings : SettingsValid imageRanges (b .settings)
+  pub key : vad.Valid (b .key)
+  pub bed : vad.Valid (b .bed)
+  pub loops : LoopsStored (b .loops)
+
+pub body-valid : (b : Base) → body .Ok b → BaseValid b
+unfolding body
+body-valid b ok = record {
+  settings = settings-valid (b .settings) (ok .0);
+  key = strand-valid (b .key) (ok .1 .0);
+  bed = strand-valid (b .bed) (ok .1 .1 .0);
+  loops = loops-valid (b .loops) (ok .1 .1 .1);
+}
+
+pub valid-body : (b : Base) → BaseValid b → body .Ok b
+unfolding body
+valid-body b v =
+    (valid-settings (b .settings) (v .settings), (valid-strand (b .key) (v .key), (valid-strand (b .bed) (v .bed), valid-loops (b .loops) (v .loops))))
+
+-- ---- the chain
+
 pub chain-valid : (c : Chain) → chain .Ok c → Valid c
 unfolding chain
-chain-valid c ok = record {
-  settings = settings-valid (c .settings) (ok .1 .0);
-  key = strand-valid (c .key) (ok .1 .1 .0);
-  bed = strand-valid (c .bed) (ok .1 .1 .1 .0);
-  loops = loops-valid (c .loops) (ok .1 .1 .1 .1 .0);
-}
+chain-valid c ok = let v = body-valid (baseOf c) (ok .1 .0) in record { settings = v .settings; key = v .key; bed = v .bed; loops = v .loops }
 
 pub valid-chain : (c : Chain) → Valid c → chain .Ok c
 unfolding chain
-valid-chain c v = (
-  tt,
-  (
-    valid-settings (c .settings) (v .settings),
-    (valid-strand (c .key) (v .key), (valid-strand (c .bed) (v .bed), (valid-loops (c .loops) (v .loops), tt))),
-  ),
-)
+valid-chain c v = (tt, (valid-body (baseOf c) (record { settings = v .settings; key = v .key; bed = v .bed; loops = v .loops }), tt))

@@ -8,6 +8,7 @@ use Rattle.codec.specs.Codec.{Codec}
 use Rattle.codec.specs.Forms.{f64, flag, one, fixed, pair, as-a, also}
 use Rattle.float.specs.Arithmetic.{zero64}
 use Rattle.vad.specs.declared.VadSettings.{VadSettings}
+use Rattle.vad.specs.declared.Strand.{Strand}
 use Rattle.ratio.specs.declared.Duck.{Duck}
 use Rattle.comis.specs.declared.loop_bank.Loops.{Loops}
 use Rattle.settings.specs.declared.Settings.{Settings}
@@ -71,9 +72,26 @@ loops = as-a (λ s. (s .slow .0, (s .mid .0, (s .fast .0, s .«hold_remaining_se
     (λ p. record { slow = db (p .0); mid = db (p .1 .0); fast = db (p .1 .1 .0); «hold_remaining_seconds» = p .1 .1 .1 })
     (pair (one f64) (pair (one f64) (pair (one f64) (one f64))))
 
--- ---- the chain: the edition, the settings, key strand, bed strand, loops, and the unused words
+-- ---- the body: words 1 to 1,272, for the settings, key strand, bed strand and loops
+
+-- the state of edition 1
+pub record Base : Type 0 where
+  pub settings : Settings
+  pub key : Strand
+  pub bed : Strand
+  pub loops : Loops
+
+unfoldable pub body : Codec Base
+body = as-a (λ b. (b .settings, (b .key, (b .bed, b .loops)))) (λ p. record { settings = p .0; key = p .1 .0; bed = p .1 .1 .0; loops = p .1 .1 .1 })
+    (pair settings (pair strand (pair strand loops)))
+
+-- ---- the chain: the edition, the body, and the unused words
+
+abbrev pub baseOf : Chain → Base
+baseOf c = record { settings = c .settings; key = c .key; bed = c .bed; loops = c .loops }
+
+abbrev pub chainOf : Base → Chain
+chainOf b = record { settings = b .settings; key = b .key; bed = b .bed; loops = b .loops }
 
 unfoldable pub chain : Codec Chain
-chain = as-a (λ c. (tt, (c .settings, (c .key, (c .bed, (c .loops, tt))))))
-    (λ p. record { settings = p .1 .0; key = p .1 .1 .0; bed = p .1 .1 .1 .0; loops = p .1 .1 .1 .1 .0 })
-    (pair (fixed (edition ∷ [])) (pair settings (pair strand (pair strand (pair loops (fixed (replicate unusedWords 0)))))))
+chain = as-a (λ c. (tt, (baseOf c, tt))) (λ p. chainOf (p .1 .0)) (pair (fixed (edition ∷ [])) (pair body (fixed (replicate unusedWords 0))))

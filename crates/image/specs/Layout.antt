@@ -1,5 +1,5 @@
--- The layout of an image: its edition, its blocks, its unused words. Definitions only.
-use Prim.Native.Nat.{ℕ, _*_}
+-- The layout of an image: its edition, its blocks, and where its words stand. Definitions only.
+use Prim.Native.Nat.{ℕ, _+_, _-_, _*_}
 use Rattle.blocks.specs.Words.{blockBytes, checkedWords}
 
 abbrev pub edition : ℕ
@@ -16,6 +16,13 @@ imageBytes = blockBytes * blockCount
 abbrev pub payloadWords : ℕ
 payloadWords = checkedWords * blockCount
 
--- zeros at the payload's end
+-- words from 1 on: settings, key strand, bed strand, loops
+abbrev pub bodyWords : ℕ
+bodyWords = 1272
+
+-- the first unused word; from it to the payload's end 50 zeros
+abbrev pub firstUnused : ℕ
+firstUnused = 1 + bodyWords
+
 abbrev pub unusedWords : ℕ
-unusedWords = 50
+unusedWords = payloadWords - firstUnused

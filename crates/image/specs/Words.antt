@@ -8,7 +8,7 @@ use lib.Ieee.{binary64, ofBits, lt}
 use Rattle.settings.specs.declared.Range.{Range}
 use Rattle.settings.specs.Settings.{imageRanges}
 use Rattle.strand_image.specs.Words.{Finite64, Flag, StrandWords}
-use Rattle.image.specs.Layout.{edition, payloadWords}
+use Rattle.image.specs.Layout.{edition, firstUnused, payloadWords}
 
 -- a setting: finite, not below its range nor above it, and no negative zero
 pub record SettingWord (r : Range) (w : ℕ) : Type 0 where
@@ -17,8 +17,8 @@ pub record SettingWord (r : Range) (w : ℕ) : Type 0 where
   pub high : lt (r .high) (ofBits binary64 w) ≡ false
   pub plain : w ≡ 0x8000000000000000 → ⊥
 
-pub record PayloadWords (p : List ℕ) : Type 0 where
-  pub edition : getD p 0 0 ≡ edition
+-- words 1 to 1,272: settings, key strand, bed strand, loops
+pub record BodyWords (p : List ℕ) : Type 0 where
   pub key-threshold : SettingWord (imageRanges .threshold) (getD p 1 0)
   pub key-hold-ms : SettingWord (imageRanges .«hold_ms») (getD p 2 0)
   pub key-gate-lufs : SettingWord (imageRanges .«gate_lufs») (getD p 3 0)
@@ -37,4 +37,8 @@ pub record PayloadWords (p : List ℕ) : Type 0 where
   pub mid : Finite64 (getD p 1270 0)
   pub fast : Finite64 (getD p 1271 0)
   pub hold-remaining : Finite64 (getD p 1272 0)
-  pub unused : (k : ℕ) → 1273 ≤ k → k < payloadWords → getD p k 0 ≡ 0
+
+pub record PayloadWords (p : List ℕ) : Type 0 where
+  pub edition : getD p 0 0 ≡ edition
+  pub body : BodyWords p
+  pub unused : (k : ℕ) → firstUnused ≤ k → k < payloadWords → getD p k 0 ≡ 0

@@ -13,8 +13,11 @@ ghost use Rattle.image.specs.Chain.{
   numbers,
   settings,
   loops,
+  body,
+  baseOf,
   chain,
 };
+ghost use Rattle.image.specs.Layout.{payloadWords, bodyWords};
 ghost use Rattle.image.specs.Image.{saveVerdict, savedIn, restoreOf};
 use chain::Chain;
 use chain::Changed;
@@ -31,9 +34,9 @@ const EDITION: u64 = 1;
 
 const BLOCKS: usize = 21;
 
-const BYTES: usize = 10752; // 512 a block
+const BYTES: usize = 512 * BLOCKS;
 
-const WORDS: usize = 1323; // of a payload: 63 a block
+const WORDS: usize = 63 * BLOCKS; // of a payload
 
 // Where the parts of a payload begin, after the edition.
 const SETTINGS: usize = 1;
@@ -46,7 +49,7 @@ const LOOPS: usize = 1269;
 
 const UNUSED: usize = 1273;
 
-const UNUSED_WORDS: usize = 50; // zero
+const UNUSED_WORDS: usize = WORDS - UNUSED; // zero
 
 // ---- writing, from place `at` on
 
@@ -90,14 +93,21 @@ fn put_loops(w: &mut [u64], at: usize, s: Loops)
     codec::put64(w, at + 3, s.hold_remaining_seconds);
 }
 
-fn put_chain(w: &mut [u64], c: Chain)
-    ensures { λ _. ⌜ Run (now (w .entry)) 0 1323 (chain .enc c) (now (w .exit)) ⌝ }
+// Words 1 to 1,272: settings, key strand, bed strand, loops.
+fn put_body(w: &mut [u64], c: Chain)
+    ensures { λ _. ⌜ Run (now (w .entry)) 1 bodyWords (body .enc (baseOf c)) (now (w .exit)) ⌝ }
 {
-    codec::put(w, 0, EDITION);
     put_settings(w, SETTINGS, c.settings);
     strand_image::put_strand(w, KEY, c.key);
     strand_image::put_strand(w, BED, c.bed);
     put_loops(w, LOOPS, c.loops);
+}
+
+fn put_chain(w: &mut [u64], c: Chain)
+    ensures { λ _. ⌜ Run (now (w .entry)) 0 payloadWords (chain .enc c) (now (w .exit)) ⌝ }
+{
+    codec::put(w, 0, EDITION);
+    put_body(w, c);
     codec::put_zeros(w, UNUSED, UNUSED_WORDS);
 }
 

@@ -1,5 +1,5 @@
 -- `image::get_chain` meets its contract.
-use Rattle.image.specs.Chain.{chain, settings, numbers, strandSettings, duck, loops}
+use Rattle.image.specs.Chain.{chain, body, settings, numbers, strandSettings, duck, loops}
 use Rattle.strand_image.specs.Strand.{strand, front, state, filters, powers, decimated, floor, smoothed, window, minima, history, decision, counts, power}
 use borrow.Author.Needs.{needs}
 use Rattle.image.proofs.get_chain.Statement.{statement}
@@ -18,7 +18,7 @@ get-loops-requires : tie.Need-get-loops-requires
 get-loops-requires c κs = search needs
 
 returns : tie.Need-returns
-unfolding chain settings numbers strandSettings duck loops strand front state filters powers decimated floor smoothed window minima history decision counts power
+unfolding chain body settings numbers strandSettings duck loops strand front state filters powers decimated floor smoothed window minima history decision counts power
 returns c =
     λ k. record {
       settings = c .before .before .before .get-settings .ensures k;

@@ -1,6 +1,7 @@
 -- `image::put_chain` meets its contract: one run of words after another.
 use native.Mathlib.Omega.{arith}
 use Rattle.codec.proofs.Runs.{then, single, these}
+use Rattle.image.specs.Layout.{unusedWords}
 use Rattle.image.specs.Chain.{chain}
 use Prim.Native.Nat.{ℕ}
 use lib.ListN.{length-replicate}
@@ -11,17 +12,8 @@ use Rattle.image.proofs.put_chain.Tie as tie
 put-requires : tie.Need-put-requires
 put-requires c κs = search needs
 
-put-settings-requires : tie.Need-put-settings-requires
-put-settings-requires c κs = search needs
-
-put-strand-requires : tie.Need-put-strand-requires
-put-strand-requires c κs = search needs
-
-put-strand-requires-2 : tie.Need-put-strand-requires-2
-put-strand-requires-2 c κs = search needs
-
-put-loops-requires : tie.Need-put-loops-requires
-put-loops-requires c κs = search needs
+put-body-requires : tie.Need-put-body-requires
+put-body-requires c κs = search needs
 
 put-zeros-requires : tie.Need-put-zeros-requires
 put-zeros-requires c κs = search needs
@@ -32,12 +24,9 @@ same-length c = search needs
 returns : tie.Need-returns
 unfolding chain
 returns c =
-    then (single (c .before .before .before .before .before .before .before .before .before .before .before .before .before .before .before .before .before .before .before .before .before .before .put .ensures)) (omega arith)
-    (then (c .before .before .before .before .before .before .before .before .before .before .before .before .before .before .before .before .before .before .put-settings .ensures) (omega arith)
-    (then (c .before .before .before .before .before .before .before .before .before .before .before .before .before .before .put-strand .ensures) (omega arith)
-    (then (c .before .before .before .before .before .before .before .before .before .before .put-strand2 .ensures) (omega arith)
-    (then (c .before .before .before .before .before .before .put-loops .ensures) (omega arith)
-    (these 50 (length-replicate {A = ℕ} 50 0) (c .before .before .put-zeros .ensures))))))
+    then (single (c .before .before .before .before .before .before .before .before .before .before .put .ensures)) (omega arith)
+    (then (c .before .before .before .before .before .before .put-body .ensures) (omega arith)
+    (these unusedWords (length-replicate {A = ℕ} unusedWords 0) (c .before .before .put-zeros .ensures)))
 
 pub put-chain-spec : {M : Type 1} → statement M
-put-chain-spec = tie.close (tie.spec put-requires put-settings-requires put-strand-requires put-strand-requires-2 put-loops-requires put-zeros-requires same-length returns)
+put-chain-spec = tie.close (tie.spec put-requires put-body-requires put-zeros-requires same-length returns)
