@@ -1,11 +1,11 @@
 //! A commentator over a crowd, through the static library: the bed's reduction every half
-//! second, then a rewind. library/run builds and runs it.
+//! second, then a rewind; at last the crowd in 5.1. library/run builds and runs it.
 
 #[path = "freightpetal.rs"]
 #[allow(dead_code)]
 mod freightpetal;
 
-use freightpetal::{FRAME, IMAGE_BYTES};
+use freightpetal::{FIVE_ONE, FRAME, IMAGE_BYTES};
 
 /// White noise of a fixed seed, -1 to 1.
 struct Noise(u64);
@@ -32,7 +32,7 @@ fn voice(at: usize) -> f32 {
 
 fn main() {
     let mut image = vec![0; IMAGE_BYTES];
-    freightpetal::fresh(&mut image).expect("10,752 bytes are lent");
+    freightpetal::fresh(&mut image).expect("11,264 bytes are lent");
     let mut noise = Noise(1);
     let mut crowd = || -> Vec<f32> { (0..FRAME).map(|_| 0.05 * noise.next()).collect() };
     let spoken = |frame: usize| -> Vec<f32> {
@@ -61,6 +61,17 @@ fn main() {
         "a frame after a rewind is answered alike: {}",
         once == again
     );
+    freightpetal::layout(&mut image, &FIVE_ONE).expect("six channels in range");
+    let all_around: Vec<f32> = (0..FIVE_ONE.len()).flat_map(|_| crowd()).collect();
+    for n in 150..190 {
+        let a = freightpetal::frame(&mut image, &spoken(n), &all_around).expect("six channels");
+        if n == 189 {
+            println!(
+                "the crowd in six channels: {:.1} LUFS over 400 ms",
+                a.bed.momentary_lufs
+            );
+        }
+    }
     image[0] ^= 1;
     println!(
         "a damaged image: {:?}",

@@ -4,13 +4,13 @@
  * may be kept, copied and put back at any time. Every function answers 0 or a number of enum freightpetal_refusal, for any length and any
  * content; a refusal changes nothing that is lent.
  *
- * Pointers. A pointer is never null, and it points to as much as its length says; the image and the answer don't overlap. The image may lie
- * at any address; samples, settings and answer are aligned as C aligns their types (4, 8 and 8 bytes).
+ * Pointers. A pointer is never null, and it points to as much as its length says; what a call writes overlaps with nothing else that is
+ * lent. Images may lie at any address; samples, settings, places and answer are aligned as C aligns their types (4, 8, 8 and 8 bytes).
  *
  * Threads. The library keeps nothing itself: threads may use different images at the same time. Two calls on one image are not made at the
  * same time.
  *
- * Stack. A thread with 144 KiB can make every call, one with 128 KiB can't; musl gives a thread 128 KiB unless it asks for more.
+ * Stack. A thread with 208 KiB can make every call, one with 192 KiB can't; musl gives a thread 128 KiB unless it asks for more.
  *
  * Floating point. The answers are promised for the mode that a process starts with: rounding to nearest, and numbers below 2^-1022 neither
  * flushed to zero (FTZ) nor read as zero (DAZ). A program that is linked with -Ofast or -ffast-math sets FTZ and DAZ at its start, for these
@@ -25,20 +25,23 @@
 extern "C" {
 #endif
 
-#define FREIGHTPETAL_IMAGE_BYTES 10752
-#define FREIGHTPETAL_FRAME 480 /* samples of a strand, 10 ms at 48 kHz */
+#define FREIGHTPETAL_IMAGE_BYTES 11264     /* edition 2 */
+#define FREIGHTPETAL_OLD_IMAGE_BYTES 10752 /* edition 1, which freightpetal_restore takes too */
+#define FREIGHTPETAL_FRAME 480             /* samples of a channel, 10 ms at 48 kHz */
+#define FREIGHTPETAL_CHANNELS 8            /* of a bed, at most */
 
 enum freightpetal_refusal {
     FREIGHTPETAL_PASSED = 0,
-    FREIGHTPETAL_SHORT_FRAME = 1,   /* a strand isn't 480 samples */
+    FREIGHTPETAL_SHORT_FRAME = 1,   /* the key isn't 480 samples, or the bed 480 for each of its channels */
     FREIGHTPETAL_BAD_SAMPLE = 2,    /* a sample is infinite or not a number */
     FREIGHTPETAL_BAD_SETTING = 3,   /* a setting is out of its range or not finite */
     FREIGHTPETAL_RUNAWAY = 4,       /* a number would not be finite */
     FREIGHTPETAL_COUNTER_FULL = 5,  /* onsets would pass 4,294,967,295 */
-    FREIGHTPETAL_WRONG_LENGTH = 6,  /* the image isn't 10,752 bytes */
+    FREIGHTPETAL_WRONG_LENGTH = 6,  /* the image isn't 11,264 bytes */
     FREIGHTPETAL_BAD_CHECK = 7,     /* a block's check is wrong */
     FREIGHTPETAL_FOREIGN_IMAGE = 8, /* a word breaks the image rules */
-    FREIGHTPETAL_NO_STRAND = 9      /* a strand other than 0 or 1 */
+    FREIGHTPETAL_NO_STRAND = 9,     /* a strand other than 0 or 1 */
+    FREIGHTPETAL_BAD_LAYOUT = 10    /* not 1 to 8 channels, or an angle or a flag out of its range */
 };
 
 enum freightpetal_state {
@@ -112,21 +115,47 @@ struct freightpetal_settings {
     uint64_t bed_voice;      /* 0 or not: whether speech in the bed counts */
 };
 
-/* A fresh chain into the image. Refusal 6. */
+/* Where a channel of the bed stands, seen from the listener. Its weight in the bed's loudness is 0 for an LFE, 1.41 for a channel at the side
+ * (azimuth 60 to 120 or -120 to -60, elevation -29 to 29), else 1. */
+struct freightpetal_place {
+    int64_t azimuth;   /* degrees, -180 to 180: 0 ahead, 90 left, -90 right */
+    int64_t elevation; /* degrees, -90 to 90: 0 at ear height, 90 above */
+    uint64_t lfe;      /* flag, 0 or 1: a low-frequency channel; its angles must be in range and are stored as 0 */
+};
+
+/* Usual beds, in ffmpeg's order of the channels, as initialisers of struct freightpetal_place places[FREIGHTPETAL_CHANNELS]: 1, 2, 6 and 8
+ * channels. FL FR; FL FR FC LFE BL BR (or SL SR); FL FR FC LFE BL BR SL SR. */
+#define FREIGHTPETAL_MONO {{0, 0, 0}}
+#define FREIGHTPETAL_STEREO {{30, 0, 0}, {-30, 0, 0}}
+#define FREIGHTPETAL_5_1 {{30, 0, 0}, {-30, 0, 0}, {0, 0, 0}, {0, 0, 1}, {110, 0, 0}, {-110, 0, 0}}
+#define FREIGHTPETAL_7_1 \
+    {{30, 0, 0}, {-30, 0, 0}, {0, 0, 0}, {0, 0, 1}, {135, 0, 0}, {-135, 0, 0}, {90, 0, 0}, {-90, 0, 0}}
+
+/* A fresh chain into the image: its bed has one channel, ahead. Refusal 6. */
 uint64_t freightpetal_fresh(uint8_t *image, size_t image_bytes);
 
-/* Whether the bytes are an image. Refusals 6, 7, 8. */
+/* Whether the bytes are an image of edition 2, as the other calls take it. Refusals 6, 7, 8. */
 uint64_t freightpetal_check(const uint8_t *image, size_t image_bytes);
 
-/* One frame of 480 samples for each strand. Refusals 6, 7, 8, 1, 2, 4, 5, in this order. */
+/* The chain of these bytes, an image of edition 1 (its bed has one channel, ahead) or 2, into the image, whatever that holds. Refusals 6 (of
+ * either length), 7, 8. */
+uint64_t freightpetal_restore(uint8_t *image, size_t image_bytes, const uint8_t *bytes, size_t count);
+
+/* One frame: 480 samples of the key, and 480 of each channel of the bed, one channel after the other. The bed's detector hears its first
+ * channel; its loudness is that of all. Refusals 6, 7, 8, 1, 2, 4, 5, in this order. */
 uint64_t freightpetal_frame(uint8_t *image, size_t image_bytes, const float *key, size_t key_samples, const float *bed, size_t bed_samples,
                             struct freightpetal_answer *answer);
 
 /* All settings are replaced. Refusals 6, 7, 8, 3. */
 uint64_t freightpetal_settings(uint8_t *image, size_t image_bytes, const struct freightpetal_settings *settings);
 
-/* The key strand (0) or the bed strand (1) begins anew. Refusals 6, 7, 8, 9. */
+/* The key strand (0) or the bed strand (1) begins anew; the bed keeps its layout. Refusals 6, 7, 8, 9. */
 uint64_t freightpetal_reset(uint8_t *image, size_t image_bytes, uint64_t strand);
+
+/* The bed has `count` channels at these places; those past the count aren't looked at. Its loudness begins anew, also where the places are
+ * the same as before; all else stays. Refusals 6, 7, 8, 10. */
+uint64_t freightpetal_layout(uint8_t *image, size_t image_bytes, uint64_t count,
+                             const struct freightpetal_place places[FREIGHTPETAL_CHANNELS]);
 
 #ifdef __cplusplus
 }

@@ -1,14 +1,19 @@
-//! The static library for Rust. The caller owns the image, 10,752 bytes that hold the whole
+//! The static library for Rust. The caller owns the image, 11,264 bytes that hold the whole
 //! chain: it may be kept, copied and put back at any time. Each call gets an answer or one
 //! refusal, for any length and content; a refusal changes nothing that is lent.
 
 /// Bytes of an image.
-pub const IMAGE_BYTES: usize = 10_752;
-/// Samples of a strand in a frame, 10 ms at 48 kHz.
+pub const IMAGE_BYTES: usize = 11_264;
+/// Bytes of an image of edition 1, which `restore` takes too.
+pub const OLD_IMAGE_BYTES: usize = 10_752;
+/// Samples of a channel in a frame, 10 ms at 48 kHz.
 pub const FRAME: usize = 480;
+/// Channels of a bed, at most.
+pub const CHANNELS: usize = 8;
 
 const ANSWER_WORDS: usize = 41;
 const SETTINGS_WORDS: usize = 12;
+const PLACES_WORDS: usize = 3 * CHANNELS;
 
 // A slice is passed as its pointer and its length.
 extern "C" {
@@ -29,9 +34,21 @@ extern "C" {
         settings: *const [u64; SETTINGS_WORDS],
     ) -> u64;
     fn freightpetal_reset(image: *mut u8, bytes: usize, strand: u64) -> u64;
+    fn freightpetal_layout(
+        image: *mut u8,
+        bytes: usize,
+        count: u64,
+        places: *const [u64; PLACES_WORDS],
+    ) -> u64;
+    fn freightpetal_restore(
+        image: *mut u8,
+        bytes: usize,
+        from: *const u8,
+        from_bytes: usize,
+    ) -> u64;
 }
 
-/// The specification's refusals, 1 to 9.
+/// The specification's refusals, 1 to 10.
 #[derive(Debug, Clone, Copy, PartialEq, Eq)]
 #[repr(u64)]
 pub enum Refusal {
@@ -44,6 +61,7 @@ pub enum Refusal {
     BadCheck,
     ForeignImage,
     NoStrand,
+    BadLayout,
 }
 
 fn verdict(number: u64) -> Result<(), Refusal> {
@@ -58,6 +76,7 @@ fn verdict(number: u64) -> Result<(), Refusal> {
         BadCheck,
         ForeignImage,
         NoStrand,
+        BadLayout,
     ];
     match all.iter().find(|r| **r as u64 == number) {
         Some(refusal) => Err(*refusal),
@@ -175,6 +194,64 @@ impl Settings {
     }
 }
 
+/// Where a channel of the bed stands, seen from the listener.
+#[derive(Debug, Clone, Copy, PartialEq, Eq)]
+pub struct Place {
+    /// Degrees, -180 to 180: 0 ahead, 90 left, -90 right.
+    pub azimuth: i64,
+    /// Degrees, -90 to 90: 0 at ear height, 90 above.
+    pub elevation: i64,
+    /// A low-frequency channel; its angles must be in range and are stored as 0.
+    pub lfe: bool,
+}
+
+impl Place {
+    pub const LFE: Self = Self {
+        azimuth: 0,
+        elevation: 0,
+        lfe: true,
+    };
+
+    /// At ear height.
+    pub const fn at(azimuth: i64) -> Self {
+        Self {
+            azimuth,
+            elevation: 0,
+            lfe: false,
+        }
+    }
+
+    fn words(&self) -> [u64; 3] {
+        let [azimuth, elevation] = [self.azimuth, self.elevation];
+        [azimuth as u64, elevation as u64, u64::from(self.lfe)]
+    }
+}
+
+/// Usual beds, in ffmpeg's order of the channels. One channel, ahead: a fresh chain's.
+pub const MONO: [Place; 1] = [Place::at(0)];
+/// FL FR.
+pub const STEREO: [Place; 2] = [Place::at(30), Place::at(-30)];
+/// FL FR FC LFE BL BR, or SL SR at the end.
+pub const FIVE_ONE: [Place; 6] = [
+    Place::at(30),
+    Place::at(-30),
+    Place::at(0),
+    Place::LFE,
+    Place::at(110),
+    Place::at(-110),
+];
+/// FL FR FC LFE BL BR SL SR.
+pub const SEVEN_ONE: [Place; 8] = [
+    Place::at(30),
+    Place::at(-30),
+    Place::at(0),
+    Place::LFE,
+    Place::at(135),
+    Place::at(-135),
+    Place::at(90),
+    Place::at(-90),
+];
+
 fn option(flag: u64, value: u64) -> Option<f64> {
     (flag != 0).then(|| f64::from_bits(value))
 }
@@ -229,9 +306,17 @@ pub fn fresh(image: &mut [u8]) -> Result<(), Refusal> {
     verdict(unsafe { freightpetal_fresh(image.as_mut_ptr(), image.len()) })
 }
 
-/// Whether the bytes are an image.
+/// Whether the bytes are an image of edition 2, as the other calls take it.
 pub fn check(image: &[u8]) -> Result<(), Refusal> {
     verdict(unsafe { freightpetal_check(image.as_ptr(), image.len()) })
+}
+
+/// The chain of these bytes, an image of edition 1 (its bed has one channel, ahead) or 2, into
+/// the image, whatever that holds.
+pub fn restore(image: &mut [u8], from: &[u8]) -> Result<(), Refusal> {
+    verdict(unsafe {
+        freightpetal_restore(image.as_mut_ptr(), image.len(), from.as_ptr(), from.len())
+    })
 }
 
 /// One frame; the 41 words of its answer go to `answer`.
@@ -254,7 +339,8 @@ pub fn frame_words(
     })
 }
 
-/// One frame of 480 samples for each strand.
+/// One frame: 480 samples of the key, and 480 of each channel of the bed, one channel after
+/// the other.
 pub fn frame(image: &mut [u8], key: &[f32], bed: &[f32]) -> Result<Answer, Refusal> {
     let mut words = [0; ANSWER_WORDS];
     frame_words(image, key, bed, &mut words)?;
@@ -271,7 +357,26 @@ pub fn settings(image: &mut [u8], settings: &Settings) -> Result<(), Refusal> {
     settings_words(image, &settings.words())
 }
 
-/// The key strand (0) or the bed strand (1) begins anew.
+/// The key strand (0) or the bed strand (1) begins anew; the bed keeps its layout.
 pub fn reset(image: &mut [u8], strand: u64) -> Result<(), Refusal> {
     verdict(unsafe { freightpetal_reset(image.as_mut_ptr(), image.len(), strand) })
+}
+
+/// The bed has `count` channels, of which three words each are azimuth, elevation (in two's
+/// complement) and LFE flag; words past the count aren't looked at.
+pub fn layout_words(
+    image: &mut [u8],
+    count: u64,
+    words: &[u64; PLACES_WORDS],
+) -> Result<(), Refusal> {
+    verdict(unsafe { freightpetal_layout(image.as_mut_ptr(), image.len(), count, words) })
+}
+
+/// The bed has a channel at each of these places. Its loudness begins anew.
+pub fn layout(image: &mut [u8], places: &[Place]) -> Result<(), Refusal> {
+    let mut words = [0; PLACES_WORDS];
+    for (word, value) in words.iter_mut().zip(places.iter().flat_map(Place::words)) {
+        *word = value;
+    }
+    layout_words(image, places.len() as u64, &words)
 }

@@ -1,21 +1,22 @@
-//! Frames as duckline reads them: 480 samples of the key, then 480 of the bed, f32
-//! little-endian.
+//! Frames as duckline reads them: 480 samples of the key, then 480 of each channel of the
+//! bed, f32 little-endian.
 
-use crate::signals::{Signal, FULL, LOUD, LOW, NOISY_SPEECH, SPEECH, SQUARE, TONE};
+use crate::signals::{Signal, FULL, LOUD, LOW, NOISE, NOISY_SPEECH, SPEECH, SQUARE, TONE};
 
 fn put(bytes: &mut Vec<u8>, samples: &[f32]) {
     bytes.extend(samples.iter().flat_map(|x| x.to_le_bytes()));
 }
 
-/// `count` frames: speech, and noisy speech.
-pub fn stream(count: u64) -> Vec<u8> {
-    let strands = [
+/// `count` frames: speech; noisy speech, and noise in the bed's further channels.
+pub fn stream(count: u64, channels: u64) -> Vec<u8> {
+    let mut strands = vec![
         Signal::new(SPEECH, 400, FULL),
         Signal::new(NOISY_SPEECH, 333, LOW),
     ];
+    strands.extend((1..channels).map(|channel| Signal::new(NOISE, channel, LOW)));
     let mut bytes = Vec::new();
     for i in 0..count {
-        for strand in strands {
+        for strand in &strands {
             put(&mut bytes, &strand.samples(i * 480, 480));
         }
     }

@@ -1,9 +1,11 @@
-//! The specification's chain around the Rust: settings, resets, the wiring of a frame
-//! (module 5), refusals, and answers by their bits. image.rs has saves and restores.
+//! The specification's chain around the Rust: settings, layouts of the bed, resets, the
+//! wiring of a frame (module 5), refusals, and answers by their bits. image.rs has saves
+//! and restores.
 
 use crate::auto::level::Reading;
 use crate::auto::ratio::{Inputs, RatioStatus, State};
 use crate::auto::vad::{Vad, VadState, FRAME};
+use crate::layout::{Layout, PlaceWords, MOST};
 use crate::mix::auto::{ChannelDepth, Duck, DuckMode, Ratio, VadDetector, VadSettings};
 use crate::mix::model::Db;
 use crate::standins;
@@ -17,6 +19,12 @@ const BAD_SETTING: Refusal = 3;
 const RUNAWAY: Refusal = 4;
 const COUNTER_FULL: Refusal = 5;
 const NO_STRAND: Refusal = 9;
+const BAD_LAYOUT: Refusal = 10;
+
+/// The number of the bed's strand.
+const BED: usize = 1;
+/// Words of a channel from the second on: shelf, high-pass, fast.
+const CHANNEL_WORDS: usize = 9;
 
 /// The 12 settings in the image's order; flags are 0 or 1.
 #[derive(Debug, Clone, Copy, PartialEq)]
@@ -236,6 +244,7 @@ pub struct Chain {
     settings: Settings,
     vad_settings: [VadSettings; 2],
     duck: Duck,
+    layout: Layout,
     running: Running,
 }
 
@@ -246,11 +255,14 @@ impl Default for Chain {
 }
 
 impl Running {
-    /// Key strand, bed strand, ducker.
+    /// Key strand, bed strand, ducker. Of each strand 480 samples a channel, one channel
+    /// after the other.
     fn frame(&mut self, samples: [&[f32]; 2], vads: &[VadSettings; 2], duck: &Duck) -> Answer {
         let mut readings = [Reading::default(); 2];
         for (i, strand) in self.strands.iter_mut().enumerate() {
-            strand.push(samples[i], &vads[i], |_, r| readings[i] = *r);
+            let (first, others) = samples[i].split_at(FRAME);
+            let others: Vec<&[f32]> = others.chunks(FRAME).collect();
+            strand.push(first, &others, &vads[i], |_, r| readings[i] = *r);
         }
         let [key, bed] = readings;
         let strands = [self.strands[0].state, self.strands[1].state];
@@ -272,12 +284,13 @@ impl Running {
 }
 
 impl Chain {
-    /// The ducker is fresh.
+    /// The bed has one channel, and the ducker is fresh.
     fn new(settings: Settings, strands: [Vad; 2]) -> Self {
         let duck = settings.duck();
         Self {
             settings,
             vad_settings: [settings.vad(0), settings.vad(1)],
+            layout: Layout::default(),
             running: Running {
                 strands,
                 ducker: State::new(&duck),
@@ -293,7 +306,7 @@ impl Chain {
     }
 
     pub fn frame(&mut self, key: &[f32], bed: &[f32]) -> Result<Answer, Refusal> {
-        if key.len() != FRAME || bed.len() != FRAME {
+        if key.len() != FRAME || bed.len() != self.channels() * FRAME {
             return Err(SHORT_FRAME);
         }
         if !key.iter().chain(bed).all(|x| x.is_finite()) {
@@ -304,6 +317,7 @@ impl Chain {
         let answer = next.frame([key, bed], &self.vad_settings, &self.duck);
         let mut numbers = Words::default();
         next.store(&mut numbers);
+        next.strands[BED].store_others(&mut numbers);
         answer.store(&mut numbers);
         if standins::take_met() || !numbers.finite {
             return Err(RUNAWAY);
@@ -331,22 +345,55 @@ impl Chain {
             return Err(NO_STRAND);
         }
         self.running.strands[strand as usize].reset();
+        if strand as usize == BED {
+            // The Rust's reset makes a level of one channel.
+            self.fresh_bed_level();
+        }
         Ok(())
     }
 
-    /// The payload of the image between its edition and its last zeros.
+    pub fn set_layout(&mut self, places: &[PlaceWords]) -> Result<(), Refusal> {
+        self.layout = Layout::new(places).ok_or(BAD_LAYOUT)?;
+        self.fresh_bed_level();
+        Ok(())
+    }
+
+    fn fresh_bed_level(&mut self) {
+        self.running.strands[BED].fresh_level(self.layout.weights());
+    }
+
+    /// Channels of the bed.
+    pub fn channels(&self) -> usize {
+        self.layout.channels()
+    }
+
+    /// The payload words that both editions of the image have: settings, strands, loops.
     pub fn store(&self, to: &mut Words) {
         self.settings.store(to);
         self.running.store(to);
     }
 
-    /// The chain of these words; none where one of them breaks an image rule. What no
-    /// image holds is fresh: the next frame sets it before anything reads it.
+    /// The chain of these words, with one channel straight ahead; none where one of them
+    /// breaks an image rule. What no image holds is fresh: the next frame sets it before
+    /// anything reads it.
     pub fn load(from: &mut Reader) -> Option<Self> {
         let settings = Settings::load(from)?;
         let mut chain = Self::new(settings, [Vad::load(from)?, Vad::load(from)?]);
         chain.running.ducker.set_numbers(from.numbers()?);
         Some(chain)
+    }
+
+    /// The 88 words that edition 2 adds: the layout, and seven channels from the second on.
+    pub fn store_surround(&self, to: &mut Words) {
+        self.layout.store(to);
+        self.running.strands[BED].store_others(to);
+        to.put_zeros(CHANNEL_WORDS * (MOST - self.channels()));
+    }
+
+    pub fn load_surround(&mut self, from: &mut Reader) -> Option<()> {
+        self.layout = Layout::load(from)?;
+        self.running.strands[BED].load_others(self.layout.weights(), from)?;
+        from.zeros(CHANNEL_WORDS * (MOST - self.channels()))
     }
 }
 

@@ -1,19 +1,24 @@
 //! Images that no run saved, written place by place; and those of the kept list that the
 //! rules allow.
 
-use crate::calls::{frames, Call, Lent};
+use crate::calls::{frames, Bed, Call, Lent};
 use crate::driver::Settings;
-use crate::image::{EDITION, LAST_ZEROS};
+use crate::layout::{PlaceWords, MOST};
 use crate::lists::{noise, silence, talker, thresholds};
 use crate::restores::SAVE;
 use crate::signals::*;
 use crate::words::Words;
 
-/// Places in a payload, from 0: the settings, the strands, the loops, the last zeros.
+/// Places in a payload, from 0: the settings, the strands, the loops, the count of the
+/// bed's channels, their places (three words each), the channels from the second on (nine
+/// words each), the last zeros.
 pub const SETTINGS: usize = 1;
 pub const STRANDS: [usize; 2] = [13, 641];
 pub const LOOPS: usize = 1_269;
-pub const LAST: usize = 1_273;
+pub const COUNT: usize = 1_273;
+pub const PLACES: usize = 1_274;
+pub const OTHERS: usize = 1_298;
+pub const LAST: usize = 1_361;
 
 /// Places in a strand's 628 words. A list's place is its count's, an option's its
 /// flag's; a filter has four words.
@@ -82,6 +87,15 @@ impl Strand {
     }
 }
 
+/// A channel of the bed from the second on; the default is at rest, straight ahead.
+#[derive(Clone, Copy, Default)]
+pub struct Channel {
+    pub place: PlaceWords,
+    /// z1 and z2 of the shelf and the high-pass.
+    pub filters: [[f64; 2]; 2],
+    pub fast: f64,
+}
+
 /// A chain as an image has it; the default is a fresh one's.
 #[derive(Clone, Default)]
 pub struct Foreign {
@@ -89,23 +103,51 @@ pub struct Foreign {
     pub strands: [Strand; 2],
     /// Slow, mid, fast and the hold remaining.
     pub loops: [f64; 4],
+    /// Of the bed's channel 1.
+    pub place: PlaceWords,
+    pub others: Vec<Channel>,
 }
 
 impl Foreign {
-    /// The 1,323 payload words.
+    fn store_common(&self, edition: u64, to: &mut Words) {
+        to.put(edition);
+        self.settings.store(to);
+        self.strands.iter().for_each(|s| s.store(to));
+        to.put_numbers(&self.loops);
+    }
+
+    /// The 1,386 payload words of edition 2.
     pub fn payload(&self) -> Vec<u64> {
         let mut words = Words::default();
-        words.put(EDITION);
-        self.settings.store(&mut words);
-        self.strands.iter().for_each(|s| s.store(&mut words));
-        words.put_numbers(&self.loops);
-        words.put_zeros(LAST_ZEROS);
+        self.store_common(2, &mut words);
+        let unused = MOST - 1 - self.others.len();
+        words.put(1 + self.others.len() as u64);
+        words.put_all(&self.place);
+        self.others.iter().for_each(|c| words.put_all(&c.place));
+        words.put_zeros(3 * unused);
+        for channel in &self.others {
+            for filter in &channel.filters {
+                words.put_numbers(filter);
+                words.put_zeros(2);
+            }
+            words.put_f64(channel.fast);
+        }
+        words.put_zeros(9 * unused);
+        words.put_zeros(25);
+        words.words
+    }
+
+    /// The 1,323 payload words of edition 1, which has no layout.
+    pub fn payload_one(&self) -> Vec<u64> {
+        let mut words = Words::default();
+        self.store_common(1, &mut words);
+        words.put_zeros(50);
         words.words
     }
 }
 
 /// A restore of a foreign image, `count` frames, a save.
-fn heard(foreign: Foreign, key: Signal, bed: Signal, count: u64) -> [Call; 3] {
+pub fn heard(foreign: Foreign, key: Signal, bed: impl Into<Bed>, count: u64) -> [Call; 3] {
     [
         Call::Restore(Lent::Payload(foreign.payload())),
         frames(key, bed, 4_800, count),
@@ -146,6 +188,7 @@ fn full() -> Foreign {
         settings: thresholds(1.0, 1.0),
         strands: [key, bed],
         loops: [6.0, -2.0, 1.0, 0.8],
+        ..Foreign::default()
     }
 }
 

@@ -10,6 +10,7 @@ pub mod dsp;
 #[path = "../../target/compare/upstream/mix/mod.rs"]
 pub mod mix;
 
+pub mod answers;
 pub mod audio;
 pub mod calls;
 pub mod constants;
@@ -18,6 +19,7 @@ pub mod driver;
 pub mod ducker;
 pub mod foreign;
 pub mod image;
+pub mod layout;
 pub mod lists;
 pub mod mixed;
 pub mod numbers;
@@ -29,4 +31,6 @@ pub mod restores;
 pub mod selftest;
 pub mod signals;
 pub mod standins;
+pub mod surround;
+pub mod surround_images;
 pub mod words;

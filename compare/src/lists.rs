@@ -8,7 +8,7 @@ use crate::signals::*;
 fn frames(key: Signal, bed: Signal, first: u64, count: u64, every: u64) -> Call {
     Call::Frames {
         key,
-        bed,
+        bed: bed.into(),
         first,
         count,
         every,
@@ -153,9 +153,9 @@ fn settings() -> Vec<Call> {
 fn odd(key: usize, bed: usize, replaced: Option<Replaced>) -> Call {
     Call::Odd {
         key: talker(),
-        bed: noise(LOW),
+        bed: noise(LOW).into(),
         first: 48_000,
-        lengths: [key, bed],
+        lengths: [Some(key), Some(bed)],
         replaced,
     }
 }

@@ -1,14 +1,13 @@
 //! The lists of calls that the program replay runs: the one that is kept, and random ones.
 
-use crate::calls::{frames, Call, Replaced};
+use crate::calls::{frames, Call, Replaced, FRAME};
 use crate::driver::Settings;
 use crate::image;
 use crate::lists::{noise, random_settings, random_signal, silence, talker, thresholds};
 use crate::random::Random;
 use crate::signals::*;
-use crate::{random_images, restores};
-
-const FRAME: usize = 480;
+use crate::surround::{self, random_bed, random_layout};
+use crate::{random_images, restores, surround_images};
 
 /// Values that a setting meets at its ends and outside its range.
 const EXTREMES: [f64; 22] = [
@@ -60,12 +59,15 @@ fn extreme_settings(random: &mut Random) -> Settings {
 
 /// A frame of a wrong length, with a sample of any bits, or both.
 fn odd_frame(random: &mut Random, first: u64) -> Call {
-    let length = |random: &mut Random| match random.below(10) {
-        0 => random.pick(&[0, 1, 479, 481, 482, 960, 961, 962, 5_000]),
-        1 => random.below(600) as usize,
-        _ => FRAME,
+    let length = |random: &mut Random, channels: u64| match random.below(10) {
+        0 => Some(random.pick(&[0, 1, 479, 481, 482, 960, 961, 962, 5_000])),
+        1 => Some(random.below(600) as usize),
+        2 => Some((FRAME as u64 * random.below(channels + 2)) as usize),
+        3 => Some((FRAME as u64 * channels + random.below(3) - 1) as usize),
+        _ => None,
     };
-    let lengths = [length(random), length(random)];
+    let channels = 1 + random.below(8);
+    let lengths = [length(random, 1), length(random, channels)];
     let strand = random.below(2) as usize;
     let any = random.bits() as u32;
     let bits = random.pick(&[
@@ -79,14 +81,14 @@ fn odd_frame(random: &mut Random, first: u64) -> Call {
         0x0000_0001,
         any,
     ]);
-    let replaced = (lengths[strand] > 0 && random.chance(70)).then(|| Replaced {
+    let replaced = random.chance(70).then(|| Replaced {
         strand,
-        index: random.below(lengths[strand] as u64) as usize,
+        index: random.below(1 << 16) as usize,
         value: f32::from_bits(bits),
     });
     Call::Odd {
         key: random_signal(random),
-        bed: random_signal(random),
+        bed: random_bed(random),
         first,
         lengths,
         replaced,
@@ -97,29 +99,30 @@ fn odd_frame(random: &mut Random, first: u64) -> Call {
 fn random_frames(random: &mut Random, first: u64, most: u64) -> Call {
     let loud = Signal::new(SQUARE, 96, LOUD);
     let mut key = random_signal(random);
-    let mut bed = random_signal(random);
+    let mut bed = random_bed(random);
     if random.chance(5) {
         key = loud;
     }
     if random.chance(5) {
-        bed = loud;
+        bed.0[random.pick(&[0, 0, 1, 2, 5])] = loud;
     }
-    frames(key, bed, first, 1 + random.below(most.min(120)))
+    let longest = random.pick(&[6, 30, 120]);
+    frames(key, bed, first, 1 + random.below(most.min(longest)))
 }
 
 /// A save, one in ten into a buffer of a wrong length.
 fn random_save(random: &mut Random) -> Call {
     let wrong = random.below(20_000) as usize;
     Call::Save(match random.below(20) {
-        0 => random.pick(&[0, 1, image::BYTES - 1, image::BYTES + 1]),
+        0 => random.pick(&[0, 1, image::BYTES - 1, image::BYTES + 1, image::OLD_BYTES]),
         1 => wrong,
         _ => image::BYTES,
     })
 }
 
 /// One list of at least `calls` calls on one chain, a frame a call: every signal,
-/// settings at and outside the ends of their ranges, resets, saves, restores of saves and
-/// of other bytes, and frames that are refused.
+/// settings at and outside the ends of their ranges, layouts, resets, saves, restores of
+/// saves and of other bytes, and frames that are refused.
 pub fn random_list(random: &mut Random, calls: u64) -> Vec<Call> {
     let strands = [0, 1, 0, 1, 0, 1, 2, 1 << 32, u64::MAX];
     let mut out = vec![Call::Fresh];
@@ -128,12 +131,13 @@ pub fn random_list(random: &mut Random, calls: u64) -> Vec<Call> {
     let mut own = Vec::new();
     let mut at = random.below(1 << 20);
     while left > 0 {
-        let some = match random.below(20) {
+        let some = match random.below(24) {
             0..=1 => vec![Call::Set(extreme_settings(random))],
             2 => vec![Call::Reset(random.pick(&strands))],
             3..=4 => vec![odd_frame(random, at)],
             5..=6 => vec![random_save(random)],
             7..=12 => random_images::random(random, &own, at),
+            13..=16 => vec![Call::Layout(random_layout(random))],
             _ => vec![random_frames(random, at, left)],
         };
         // A save that comes alone isn't of a foreign image's chain.
@@ -156,10 +160,14 @@ pub fn random_list(random: &mut Random, calls: u64) -> Vec<Call> {
 }
 
 /// The list that the program replay is held to: each state, each refusal, settings,
-/// resets, saves and restores.
+/// layouts, resets, saves and restores.
 pub fn kept() -> Vec<Call> {
     let mut out = vec![Call::Fresh];
     out.extend([restores::first(), without_images(), restores::kept()].concat());
+    out.extend(surround::kept());
+    let whole = |call: &&Call| matches!(call, Call::Save(image::BYTES));
+    let saves = out.iter().filter(whole).count();
+    out.extend(surround_images::kept(saves));
     out
 }
 
@@ -171,9 +179,9 @@ fn without_images() -> Vec<Call> {
     let square = Signal::new(SQUARE, 96, LOUD);
     let odd = |key, bed, replaced| Call::Odd {
         key: talker,
-        bed: noise(LOW),
+        bed: noise(LOW).into(),
         first: 48_000,
-        lengths: [key, bed],
+        lengths: [Some(key), Some(bed)],
         replaced,
     };
     let bad = |strand, index, value| {

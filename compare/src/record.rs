@@ -6,10 +6,10 @@ use crate::dsp::biquad;
 use crate::dsp::loudness::{K_HIGH_PASS, K_SHELF};
 use crate::signals;
 use crate::words::Words;
-use crate::{calls, decision, ducker, lists, numbers, standins};
+use crate::{calls, decision, ducker, lists, numbers, standins, surround};
 
 /// Module and its recorder.
-pub const MODULES: [(&str, fn() -> Vec<u8>); 7] = [
+pub const MODULES: [(&str, fn() -> Vec<u8>); 8] = [
     ("numbers", numbers::record),
     ("filter", filter),
     ("level", level),
@@ -17,6 +17,7 @@ pub const MODULES: [(&str, fn() -> Vec<u8>); 7] = [
     ("decision", decision::record),
     ("ducker", ducker::record),
     ("frames", frames),
+    ("surround", surrounds),
 ];
 
 /// Where the repository keeps a module's file.
@@ -121,6 +122,16 @@ fn frames() -> Vec<u8> {
         "frames, made by compare/record frames. Calls with their answers up to the end: 0 fresh, \
          1 frames, 2 an odd frame, 3 settings, 4 reset; compare/src/calls.rs has their words, \
          compare/src/driver.rs the 41 words of an answer.",
+    )
+}
+
+fn surrounds() -> Vec<u8> {
+    let mut words = Words::default();
+    calls::run(&surround::recorded(), &mut words);
+    words.file(
+        "surround, made by compare/record surround. Calls as in frames, and 5 a layout call, 6 \
+         frames and 7 an odd frame of a bed of several channels; compare/src/calls.rs has their \
+         words.",
     )
 }
 

@@ -1,7 +1,7 @@
 //! Lists of calls as the program `replay` reads them, and the Rust's answers as it
 //! writes them. crates/replay/src/main.rt has the form of both.
 
-use crate::calls::Call;
+use crate::calls::{strands, Call, FRAME};
 use crate::driver::{Answer, Chain, Refusal};
 use crate::image;
 use crate::mixed;
@@ -33,11 +33,11 @@ impl Replayed {
         self.answer(chain.frame(key, bed), Answer::store);
     }
 
-    /// The letter and a length, which is 32 bits wide.
-    fn image_call(&mut self, letter: u8, length: usize) {
-        let length = u32::try_from(length).expect("a length of 32 bits");
+    /// The letter and a count, which is 32 bits wide.
+    fn counted_call(&mut self, letter: u8, count: usize) {
+        let count = u32::try_from(count).expect("a count of 32 bits");
         self.calls.push(letter);
-        self.calls.extend(length.to_le_bytes());
+        self.calls.extend(count.to_le_bytes());
     }
 
     /// 0 and what `store` puts, or the refusal's number.
@@ -53,8 +53,6 @@ impl Replayed {
         self.answers.extend(words.bytes());
     }
 }
-
-const FRAME: usize = 480;
 
 /// What the accepted saves of a list wrote, and what the Rust was at each.
 #[derive(Default)]
@@ -83,7 +81,8 @@ impl Saves {
             return Ok(());
         }
         chain.restore(bytes)?;
-        assert_eq!(chain.image(), bytes, "an accepted image is another's");
+        let again = image::saved_again(bytes);
+        assert_eq!(chain.image(), again, "an accepted image is another's");
         Ok(())
     }
 }
@@ -94,7 +93,7 @@ pub fn run(calls: &[Call]) -> Replayed {
     let mut chain = Chain::default();
     let mut saves = Saves::default();
     for call in calls {
-        match *call {
+        match call {
             Call::Fresh => assert!(out.calls.is_empty(), "replay has one chain"),
             Call::Frames {
                 key,
@@ -103,37 +102,43 @@ pub fn run(calls: &[Call]) -> Replayed {
                 count,
                 ..
             } => {
-                for i in 0..count {
+                for i in 0..*count {
                     let at = first + i * FRAME as u64;
-                    let [key, bed] = [key, bed].map(|s| s.samples(at, FRAME));
+                    let [key, bed] = strands(key, bed, chain.channels(), at);
                     out.frame(&mut chain, &key, &bed);
                 }
             }
             Call::Odd { .. } => {
-                let [key, bed] = call.odd_strands();
+                let ([key, bed], _) = call.odd_strands(chain.channels());
                 out.frame(&mut chain, &key, &bed);
             }
             Call::Set(settings) => {
                 let mut words = Words::default();
                 settings.store(&mut words);
                 out.call(b'S', &words);
-                out.answer(chain.set(settings), |_, _| ());
+                out.answer(chain.set(*settings), |_, _| ());
             }
             Call::Reset(strand) => {
                 let mut words = Words::default();
-                words.put(strand);
+                words.put(*strand);
                 out.call(b'R', &words);
-                out.answer(chain.reset(strand), |_, _| ());
+                out.answer(chain.reset(*strand), |_, _| ());
+            }
+            Call::Layout(places) => {
+                out.counted_call(b'B', places.len());
+                let words = places.iter().flatten();
+                out.calls.extend(words.flat_map(|w| w.to_le_bytes()));
+                out.answer(chain.set_layout(places), |_, _| ());
             }
             Call::Save(length) => {
-                out.image_call(b'V', length);
-                out.answer(saves.save(&chain, length), |image, to| {
+                out.counted_call(b'V', *length);
+                out.answer(saves.save(&chain, *length), |image, to| {
                     to.put_all(&image::words(image));
                 });
             }
-            Call::Restore(ref lent) => {
+            Call::Restore(lent) => {
                 let bytes = lent.bytes(&saves.images);
-                out.image_call(b'L', bytes.len());
+                out.counted_call(b'L', bytes.len());
                 out.calls.extend(&bytes);
                 out.answer(saves.restore(&mut chain, &bytes), |_, _| ());
             }

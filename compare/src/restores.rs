@@ -29,7 +29,7 @@ pub fn edited(number: usize, edits: &[Edit]) -> Call {
 
 /// The first calls of the kept list: save FRESH, and buffers of a wrong length.
 pub fn first() -> Vec<Call> {
-    vec![SAVE, Call::Save(0), Call::Save(10_751), Call::Save(10_753)]
+    [BYTES, 0, 10_752, 11_263, 11_265].map(Call::Save).to_vec()
 }
 
 /// Back to a save, and the same frames again; back over a settings call; back to fresh.
@@ -63,14 +63,14 @@ fn rewinds() -> Vec<Call> {
 /// Refusals 6 and 7: wrong lengths; each block with a word changed, its check among
 /// them; a bad check after a bad word.
 fn damaged() -> Vec<Call> {
-    let lengths = [0, 1, 10_751, 10_753, 20_000];
+    let lengths = [0, 1, 10_751, 10_753, 11_263, 11_265, 20_000];
     let mut out = lengths.map(|n| edited(LATER, &[Edit::Length(n)])).to_vec();
-    for block in 0..21 {
+    for block in 0..22 {
         let word = [0, 63, 21 + block, 62][block % 4];
         let bits = [1 << (3 * block), u64::MAX, NEGATIVE_ZERO][block % 3];
         out.push(edited(LATER, &[Edit::Flip(64 * block + word, bits)]));
     }
-    out.push(edited(LATER, &[Edit::Word(0, 2), Edit::Flip(WORDS - 1, 1)]));
+    out.push(edited(LATER, &[Edit::Word(0, 3), Edit::Flip(WORDS - 1, 1)]));
     out
 }
 
@@ -79,7 +79,7 @@ fn bad_settings() -> Vec<(usize, u64)> {
     let key = (SETTINGS..).zip(STRAND_RANGES);
     let bed = (SETTINGS + 3..).zip(STRAND_RANGES);
     let duck = (SETTINGS + 7..).zip(DUCK_RANGES);
-    let mut out = vec![(0, 2)];
+    let mut out = vec![(0, 0), (0, 1), (0, 3)];
     for (place, (low, high)) in key.chain(bed).chain(duck) {
         if place % 2 == 1 || place > 9 {
             out.push((place, low.next_down().to_bits()));

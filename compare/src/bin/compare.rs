@@ -3,15 +3,17 @@
 use std::io::Write;
 use std::process::ExitCode;
 
-use compare::{audio, constants, record, replay, selftest};
+use compare::{answers, audio, constants, record, replay, selftest, surround};
 
 const HELP: &str = "\
 compare record MODULE [-o PATH]      writes a module's recorded answers
 compare replay calls [SEED COUNT]    writes a random list of at least COUNT calls as replay reads
                                      it; without SEED and COUNT the one that is kept
 compare replay answers [SEED COUNT]  writes the Rust's answers to it
-compare audio [COUNT]                writes COUNT frames as duckline reads them: speech, noisy speech;
-                                     without COUNT the run that is kept
+compare answer                       writes the Rust's answers to the calls of standard input
+compare audio [COUNT [LAYOUT]]       writes COUNT frames as duckline reads them: speech, noisy speech
+                                     (the bed of LAYOUT: mono, stereo, 5.1 or 7.1); without COUNT
+                                     the run that is kept
 compare constants                    prints the constants' table
 compare selftest                     tests root, narrowing, round, images and examples of the stand-ins
 compare paths                        prints each module and where its recorded file lies";
@@ -40,6 +42,12 @@ fn record(arguments: &[&str]) -> Result<(), String> {
 fn number(text: &str) -> Result<u64, String> {
     text.parse()
         .map_err(|_| format!("{text} is no whole number"))
+}
+
+/// The channels of a layout by its name.
+fn channels_of(name: &str) -> Result<u64, String> {
+    let places = surround::named(name).ok_or_else(|| format!("{name} is no layout"))?;
+    Ok(places.len() as u64)
 }
 
 fn replayed(part: &str, list: &[&str]) -> Result<(), String> {
@@ -72,8 +80,16 @@ fn main() -> ExitCode {
         [.., "-h" | "--help"] | [] => put(format!("{HELP}\n").as_bytes()),
         ["record", rest @ ..] => record(rest),
         ["replay", part, list @ ..] => replayed(part, list),
+        ["answer"] => answers::answer(
+            std::io::BufReader::new(std::io::stdin().lock()),
+            std::io::stdout().lock(),
+        )
+        .map_err(|e| e.to_string()),
         ["audio"] => put(&audio::kept()),
-        ["audio", count] => number(count).and_then(|n| put(&audio::stream(n))),
+        ["audio", count] => number(count).and_then(|n| put(&audio::stream(n, 1))),
+        ["audio", count, layout] => {
+            channels_of(layout).and_then(|channels| put(&audio::stream(number(count)?, channels)))
+        }
         ["constants"] => put(constants::text().as_bytes()),
         ["selftest"] => test(),
         ["paths"] => {

@@ -131,4 +131,18 @@ impl Vad {
             .map(|mean| (db(mean) * 10.0).doc_round() / 10.0);
         Some(vad)
     }
+
+    /// A fresh level of channels with these weights; all else stays.
+    pub fn fresh_level(&mut self, weights: Vec<f64>) {
+        self.level = super::level::Level::new(weights);
+    }
+
+    /// The words of the channels from the second on.
+    pub fn store_others(&self, to: &mut crate::words::Words) {
+        self.level.store_others(to);
+    }
+
+    pub fn load_others(&mut self, weights: Vec<f64>, from: &mut crate::words::Reader) -> Option<()> {
+        self.level.load_others(weights, from)
+    }
 }

@@ -2,19 +2,19 @@
 use mathlib.Core.Path.{_≡_, refl, sym, ap, _∙_, subst}
 use mathlib.Core.Bool.{Bool, true, false, cond}
 use mathlib.Core.List.{List, [], _∷_, _++_}
-use Prim.Native.Nat.{ℕ, _+_, _*_, _/_, _%_, _^_, _≤_, _<_}
+use Prim.Native.Nat.{ℕ, _+_, _-_, _*_, _/_, _%_, _^_, _≤_, _<_}
 use native.Mathlib.Nat.{zero-add, add-zero}
 use native.Mathlib.Numerals.{add-one}
 use native.Mathlib.Decide.{decLt}
 use native.Mathlib.Omega.{arith}
 use borrow.Author.Tests.{lt-ltb, eq-eqb, eqb-true}
-use lib.ListN.{length, getD}
-use lib.Seq.{ext-getD}
+use lib.ListN.{length, getD, set, take, drop, length-drop}
+use lib.Seq.{ext-getD, getD-drop, take-add, length-take-le}
 use lib.Dec.{ltb, lit<}
-use Rattle.blocks.specs.Lists.{table, Words, Bytes, laid, Laid}
+use Rattle.blocks.specs.Lists.{table, Words, Bytes, laid, Laid, same}
 use Rattle.blocks.specs.Words.{blockBytes, blockWords, checkedWords, wordAt, bytes8, bytesOf, mixed, checkOf, holds, blocksIn, firstBad}
 use Rattle.blocks.specs.Image.{payloadWord, imageWord, imageOf, payloadOf}
-use Rattle.blocks.proofs.Lists.{length-table, getD-table, table-ext, table-snoc, below-table, none-yet, next, laid-length, laid-all}
+use Rattle.blocks.proofs.Lists.{length-table, getD-table, table-ext, table-snoc, below-table, none-yet, next, turn, laid-length, laid-all, same-both}
 use Rattle.blocks.proofs.Bytes.{word-at, length-bytes, bytes-snoc, bytes-of-words, under8}
 use Rattle.blocks.proofs.Checks.{Checked, checked-none, checked-next, checked-all, check-ext, checkOf-lt, first-none, all-before}
 
@@ -151,6 +151,12 @@ pub payload-inj : (n : ℕ) (b b′ : List ℕ) → length b ≡ blockBytes * n 
     → payloadOf b ≡ payloadOf b′ → b ≡ b′
 payload-inj n b b′ l l′ s s′ e e′ q = sym (image-of-payload b n l s e) ∙ ap (imageOf n) q ∙ image-of-payload b′ n l′ s′ e′
 
+-- words that are compared with a payload, in place of bytes with an image
+pub same-image : (n : ℕ) (p b : List ℕ) → length p ≡ checkedWords * n → length b ≡ blockBytes * n → Words p → Bytes b → firstBad b ≡ n
+    → same p (payloadOf b) ≡ same (imageOf n p) b
+same-image n p b k l s t e =
+    same-both (λ q. ap (imageOf n) q ∙ image-of-payload b n l t e) (λ q. sym (image-payload p s n k) ∙ ap payloadOf q)
+
 -- what `write_image` and `payload` leave in a buffer of the right length
 pub image-laid : (n : ℕ) (p b : List ℕ) → length b ≡ blockBytes * n → laid b 0 (imageOf (blocksIn b) p) ≡ imageOf n p
 image-laid n p b l =
@@ -210,3 +216,18 @@ writing-all {p} {b} {b₁} {b₂} {x} {k} {j} {c} h g y l =
 pub wrote-all : {p b b′ : List ℕ} {k n : ℕ} → Wrote p (blockWords * k) b b′ → k ≡ n → b′ ≡ laid b 0 (imageOf n p)
 unfolding imageOf
 wrote-all {p} {b} {b′} {k} {n} h e = h .over .is ∙ ap (λ (m : ℕ). laid b 0 (bytesOf (table (imageWord p) (blockWords * m)))) e
+
+-- ---- the loops that read a payload
+
+-- one word more of block k
+pub block-next : (b : List ℕ) {w w₁ : List ℕ} {k j v : ℕ} → Laid w (checkedWords * k) (take j (drop (checkedWords * k) (payloadOf b))) w₁ → k < blocksIn b → j < checkedWords
+    → v ≡ wordAt b (blockWords * k + j) → Laid w (checkedWords * k) (take (j + 1) (drop (checkedWords * k) (payloadOf b))) (set w₁ (checkedWords * k + j) v)
+block-next b {w} {w₁} {k} {j} {v} p h g e =
+    let xs = drop (checkedWords * k) (payloadOf b) in
+    let n : length xs ≡ checkedWords * blocksIn b - checkedWords * k = length-drop (checkedWords * k) (payloadOf b) ∙ ap (λ (m : ℕ). m - checkedWords * k) (payload-length b) in
+    turn xs p (omega arith) (e ∙ sym (getD-drop (checkedWords * k) (payloadOf b) j 0 ∙ payload-at b k j h g))
+
+-- the first i words, and the n after them
+pub payload-next : (p : List ℕ) (n j : ℕ) {w w₁ w₂ : List ℕ} {i : ℕ} → Laid w 0 (take i p) w₁ → i ≤ length p → i + n ≡ j → Laid w₁ i (take n (drop i p)) w₂ → Laid w 0 (take j p) w₂
+payload-next p n j {w} {w₁} {w₂} {i} h g e q =
+    subst (λ (x : List ℕ). Laid w 0 x w₂) (sym (take-add i n p) ∙ ap (λ (m : ℕ). take m p) e) (next h (length-take-le i p g) (zero-add i) q)

@@ -190,6 +190,16 @@ same-eq (x ∷ xs) (y ∷ ys) e =
     let a = and-true (eqb x y) (same xs ys) e in
     λ i. eqb-true x y (a .0) i ∷ same-eq xs ys (a .1) i
 
+-- two comparisons come to the same, where each equality gives the other
+pub same-both : {a b c d : List ℕ} → (a ≡ b → c ≡ d) → (c ≡ d → a ≡ b) → same a b ≡ same c d
+same-both {a} {b} {c} {d} f g = go (same a b) refl (same c d) refl
+  where
+    go : (x : Bool) → same a b ≡ x → (y : Bool) → same c d ≡ y → x ≡ y
+    go true p true q = refl
+    go false p false q = refl
+    go true p false q = sym (same-refl d) ∙ ap (λ (z : List ℕ). same z d) (sym (f (same-eq a b p))) ∙ q
+    go false p true q = sym p ∙ ap (λ (z : List ℕ). same z b) (g (same-eq c d q)) ∙ same-refl b
+
 pub same-unlike : (a b : List ℕ) → (length a ≡ length b → ⊥) → same a b ≡ false
 same-unlike a b h = go (same a b) refl
   where

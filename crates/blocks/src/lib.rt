@@ -1,8 +1,15 @@
 // Images of any number of blocks: their words, their bytes and the check of each block. What the words mean is said elsewhere.
 ghost use mathlib.Core.Path.{_≡_};
-ghost use lib.ListN.{getD};
-ghost use Rattle.blocks.specs.Lists.{laid, same};
-ghost use Rattle.blocks.specs.Words.{rotated, mixed, firstBad, blocksIn};
+ghost use Prim.Native.Nat.{_+_, _*_, _≤_, _<_};
+ghost use lib.ListN.{length, take, drop, getD};
+ghost use Rattle.blocks.specs.Lists.{laid, Laid, same};
+ghost use Rattle.blocks.specs.Words.{
+  checkedWords,
+  rotated,
+  mixed,
+  firstBad,
+  blocksIn,
+};
 ghost use Rattle.blocks.specs.Image.{imageOf, payloadOf};
 
 pub mod little_endian;
@@ -37,7 +44,7 @@ pub fn first_bad(b: &[u8]) -> usize
         let mut check = block as u64;
         let mut j: usize = 0;
         while j < BLOCK_WORDS {
-            let w = little_endian::read8(b, 8 * (BLOCK_WORDS * block + j));
+            let w = little_endian::whole8(b, 8 * (BLOCK_WORDS * block + j));
             if j < CHECKED_WORDS {
                 check = mixed(check, w);
             } else {
@@ -79,23 +86,54 @@ pub fn write_image(p: &[u64], b: &mut [u8])
     }
 }
 
+// The first n words of a block of b, in their places of a payload in w.
+fn block_payload(b: &[u8], block: usize, n: usize, w: &mut [u64])
+    requires { ⌜ (block < blocksIn (now b)) × (n ≤ checkedWords) × (checkedWords * block + n ≤ length (now w)) ⌝ }
+    ensures { λ _. ⌜ Laid (now (w .entry)) (checkedWords * block) (take n (drop (checkedWords * block) (payloadOf (now (b .entry))))) (now (w .exit)) ⌝ }
+{
+    let mut j: usize = 0;
+    while j < n {
+        w[CHECKED_WORDS * block + j] = little_endian::whole8(b, 8 * (BLOCK_WORDS * block + j));
+        j += 1;
+    }
+}
+
 // The payload of the whole blocks of b, in the first places of w. Places after it stay, and words without a place are dropped.
 pub fn payload(b: &[u8], w: &mut [u64])
     ensures { λ _. ⌜ now (w .exit) ≡ laid (now (w .entry)) 0 (payloadOf (now (b .entry))) ⌝ }
 {
     let n = sequence::least(w.len(), CHECKED_WORDS * (b.len() / BLOCK_BYTES));
-    let mut k: usize = 0;
-    while k < n {
-        w[k] = little_endian::read8(
+    let mut block: usize = 0;
+    while CHECKED_WORDS * block < n {
+        block_payload(
             b,
-            8 * (BLOCK_WORDS * (k / CHECKED_WORDS) + k % CHECKED_WORDS),
+            block,
+            sequence::least(CHECKED_WORDS, n - CHECKED_WORDS * block),
+            w,
         );
-        k += 1;
+        block += 1;
     }
 }
 
 // Whether two runs of bytes are the same.
 pub fn same(a: &[u8], b: &[u8]) -> bool
+    ensures { λ r. ⌜ r ≡ same (now (a .entry)) (now (b .entry)) ⌝ }
+{
+    if a.len() != b.len() {
+        return false;
+    }
+    let mut k: usize = 0;
+    while k < a.len() {
+        if a[k] != b[k] {
+            return false;
+        }
+        k += 1;
+    }
+    true
+}
+
+// Whether two runs of words are the same.
+pub fn same_words(a: &[u64], b: &[u64]) -> bool
     ensures { λ r. ⌜ r ≡ same (now (a .entry)) (now (b .entry)) ⌝ }
 {
     if a.len() != b.len() {

@@ -36,7 +36,7 @@ fn part4(b: &[u8], i: usize, k: usize) -> u32
     byte(b, i, k) + byte(b, i, k + 1) * 256 + (byte(b, i, k + 2) + byte(b, i, k + 3) * 256) * 65536
 }
 
-// Two and four bytes from place i on, which are all there. Of halves the compiler makes one read.
+// Two, four and eight bytes from place i on, which are all there. Of halves the compiler makes one read.
 fn whole2(b: &[u8], i: usize) -> u32
     requires { ⌜ i + 2 ≤ length (now b) ⌝ }
     ensures { λ r. ⌜ (r ≡ word2 (now (b .entry)) i) × (r < 65536) ⌝ }
@@ -49,6 +49,13 @@ fn whole4(b: &[u8], i: usize) -> u32
     ensures { λ r. ⌜ r ≡ word4 (now (b .entry)) i ⌝ }
 {
     whole2(b, i) + whole2(b, i + 2) * 65536
+}
+
+pub(crate) fn whole8(b: &[u8], i: usize) -> u64
+    requires { ⌜ i + 8 ≤ length (now b) ⌝ }
+    ensures { λ r. ⌜ r ≡ word8 (now (b .entry)) i ⌝ }
+{
+    whole4(b, i) as u64 + whole4(b, i + 4) as u64 * 4294967296
 }
 
 // The number that the four bytes from place i on stand for.
@@ -71,7 +78,7 @@ pub fn read8(b: &[u8], i: usize) -> u64
     let n = b.len();
     if 8 <= n {
         if i <= n - 8 {
-            return whole4(b, i) as u64 + whole4(b, i + 4) as u64 * 4294967296;
+            return whole8(b, i);
         }
     }
     part4(b, i, 0) as u64 + part4(b, i, 4) as u64 * 4294967296

@@ -1,50 +1,98 @@
--- A strand's frame is its filters over the samples and what follows them: 480 finite samples are heard as they are.
-use mathlib.Core.Path.{_≡_, refl, sym, _∙_}
+-- A strand's frame is its filters over the samples of its first channel and what follows them: finite samples are heard as they are.
+use Prim.Native.Nat.{ℕ, zero, suc, _*_, _≤_}
+use native.Mathlib.Omega.{arith}
+use mathlib.Core.Path.{_≡_, refl, sym, ap, ap₂, _∙_}
 use mathlib.Core.Bool.{Bool, true, _&&_}
-use mathlib.Core.List.{List, foldl}
+use mathlib.Core.List.{List, [], _∷_, map, foldl}
 use lib.Dec.{T, eqb}
 use borrow.Author.Tests.{eqb-true}
-use lib.ListN.{length}
+use lib.ListN.{length, take, length-take}
+use lib.Seq.{take-all}
+use Rattle.sequence.specs.History.{laid}
 use lib.Ieee.{Float}
+use lib.Ieee.Fits.{and-i, and-l, and-r}
+use lib.Ieee.Scale.{finite}
 use Rattle.level.specs.Bs1770.{frameLength}
 use Rattle.float.specs.AllFinite.{allFinite}
 use Rattle.level.specs.declared.Level.{Level}
+use Rattle.level.specs.declared.Framed as metered
+use Rattle.level.specs.Weighing.{cleanOf}
+use Rattle.channels.specs.declared.Surround.{Surround}
+use Rattle.channels.specs.Surround.{monoSurround, bedFrameOf}
+use Rattle.channels.proofs.Promised.{bed-laws}
 use Rattle.level.specs.Weighing as weighing
 use Rattle.level.specs.Level as level
 use Rattle.level.proofs.Bs1770.{clean-finite}
-use Rattle.detector.specs.declared.FeatureDetector.{FeatureDetector}
 use Rattle.detector.specs.Filters as filters
 use Rattle.detector.specs.Detector as detector
 use Rattle.detector.proofs.Finished.{samples-all}
+use Rattle.paired_filters.specs.declared.Filtered.{Filtered}
+use Rattle.paired_filters.specs.declared.Weighed.{Weighed}
+use Rattle.paired_filters.specs.declared.Banded.{Banded}
+use Rattle.paired_filters.specs.declared.Side.the-variants.{Key, Bed}
+use Rattle.paired_filters.specs.Pairs.{weighedOf, weighingAt, filteredOf}
 use Rattle.vad.specs.declared.VadSettings.{VadSettings}
 use Rattle.vad.specs.declared.Strand.{Strand}
 use Rattle.vad.specs.Strand as strand
 use Rattle.sequence.proofs.Tests.{both, told}
-use Rattle.chain.specs.StrandFrames.{Whole, finishedOf, strandOf}
+use Rattle.chain.specs.StrandFrames.{Whole, Heard, finishedOf, strandOf}
+use Rattle.chain.specs.Chain.{firstChannel, bedStrandOf}
 
-module _ (xs : List Float) (n : length xs ≡ frameLength) (ok : T (allFinite xs)) where
-  level-apart : (l : Level) → level.finishOf (foldl weighing.stepOf (level.startOf l) (filters.samplesOf xs)) (l .powers) frameLength ≡ level.frameOf l xs
-  unfolding level.frameOf weighing.runOf
-  level-apart l = λ i. level.finishOf (foldl weighing.stepOf (level.startOf l) ((samples-all xs n ∙ sym (clean-finite xs ok)) i)) (l .powers) (sym n i)
+all-take : (n : ℕ) (xs : List Float) → T (allFinite xs) → T (allFinite (take n xs))
+unfolding allFinite
+all-take zero xs ok = tt
+all-take (suc n) [] ok = tt
+all-take (suc n) (x ∷ xs) ok = and-i (finite x) (allFinite (take n xs)) (and-l (finite x) (allFinite xs) ok) (all-take n xs (and-r (finite x) (allFinite xs) ok))
 
-  detector-apart : (d : FeatureDetector) → detector.finishOf d (foldl filters.stepOf (filters.begun (d .filters)) (filters.samplesOf xs)) (filters.outputsOf (filters.begun (d .filters)) (filters.samplesOf xs)) ≡ detector.frameOf d xs
-  unfolding detector.frameOf filters.runOf
-  detector-apart d = refl
+-- ---- a strand of n channels, whose detector hears the first
 
-  pub strand-apart : (t : Strand) (s : VadSettings) → strandOf t (filters.samplesOf xs) s ≡ strand.frameOf t xs s
-  unfolding strand.frameOf finishedOf
-  strand-apart t s = λ i. strand.finishOf (t .decision) (level-apart (t .level) i) (detector-apart (t .detector) i) s
+module _ (n : ℕ) (xs : List Float) (some : 1 ≤ n) (whole : length xs ≡ n * frameLength) (ok : T (allFinite xs)) where
+  first-length : length (firstChannel xs) ≡ frameLength
+  first-length = length-take frameLength xs ∙ omega (arith, whole, some)
+
+  -- further samples aren't heard
+  first-samples : filters.samplesOf (firstChannel xs) ≡ filters.samplesOf xs
+  unfolding filters.samplesOf
+  first-samples = ap (λ (ys : List Float). laid ys filters.noSamples) (take-all frameLength (firstChannel xs) (omega (arith, first-length)))
+
+  pub first-heard : Heard (filters.samplesOf xs) xs
+  first-heard = sym first-samples ∙ samples-all (firstChannel xs) first-length ∙ sym (clean-finite (firstChannel xs) (all-take frameLength xs ok))
+
+  -- the level of all channels, and the detector's frame of the first
+  pub strand-apart : (t : Strand) (s : Surround) (settings : VadSettings)
+      → strandOf t s (filters.samplesOf xs) xs settings
+      ≡ record { framed = bedStrandOf t (bedFrameOf (t .level) s xs .framed) xs settings; surround = bedFrameOf (t .level) s xs .surround }
+  unfolding finishedOf bedStrandOf detector.frameOf filters.runOf
+  strand-apart t s settings = rw (← first-samples) refl
+
+-- one channel at 0, 0 is a strand's frame
+pub key-apart : (xs : List Float) → length xs ≡ frameLength → (t : Strand) (s : VadSettings) → bedStrandOf t (bedFrameOf (t .level) monoSurround xs .framed) xs s ≡ strand.frameOf t xs s
+unfolding bedStrandOf strand.frameOf
+key-apart xs n t s =
+    let level = bed-laws .mono-is-level (t .level) monoSurround xs refl n in
+    let first = take-all frameLength xs (omega (arith, n)) in
+    λ i. strand.finishOf (t .decision) (level i .framed) (detector.frameOf (t .detector) (first i)) s
+
+-- the filters, run side by side, are those of a strand's first channel
+module _ (f : Filtered) (w : Weighed) (g : Banded) (xs ys samples : List Float) (l : Level) (e : f ≡ filteredOf w g xs ys) where
+  pub key-weighed : w .key ≡ level.startOf l → Heard xs samples → weighingAt (f .weighed) Key ≡ weighing.runOf (level.startOf l) (firstChannel samples)
+  unfolding filteredOf weighedOf weighing.runOf
+  key-weighed q h = ap (λ (f : Filtered). weighingAt (f .weighed) Key) e ∙ ap₂ (foldl weighing.stepOf) q h
+
+  pub bed-weighed : w .bed ≡ level.startOf l → Heard ys samples → weighingAt (f .weighed) Bed ≡ weighing.runOf (level.startOf l) (firstChannel samples)
+  unfolding filteredOf weighedOf weighing.runOf
+  bed-weighed q h = ap (λ (f : Filtered). weighingAt (f .weighed) Bed) e ∙ ap₂ (foldl weighing.stepOf) q h
 
 -- ---- what `frame` has tested
 
-pub whole-frame : (key bed : List Float) (p q : Bool) → eqb (length key) frameLength && eqb (length bed) frameLength ≡ true
-    → p ≡ allFinite key → q ≡ allFinite bed → p && q ≡ true → Whole key bed
-whole-frame key bed p q l e f h =
-    let n = both (eqb (length key) frameLength) (eqb (length bed) frameLength) l in
+pub whole-frame : (n m : ℕ) (key bed : List Float) (p q : Bool) → m ≡ n * frameLength → eqb (length key) frameLength && eqb (length bed) m ≡ true
+    → p ≡ allFinite key → q ≡ allFinite bed → p && q ≡ true → Whole n key bed
+whole-frame n m key bed p q size l e f h =
+    let n = both (eqb (length key) frameLength) (eqb (length bed) m) l in
     let s = both p q h in
     record {
       key-length = eqb-true (length key) frameLength (n .0);
-      bed-length = eqb-true (length bed) frameLength (n .1);
+      bed-length = eqb-true (length bed) m (n .1) ∙ size;
       key-samples = told (allFinite key) (sym e ∙ s .0);
       bed-samples = told (allFinite bed) (sym f ∙ s .1);
     }

@@ -1,4 +1,5 @@
 pub mod Chain
 pub mod StrandFrames
+pub mod Base
 pub mod Valid
 pub mod Numbers

@@ -2,6 +2,7 @@
 use mathlib.Core.List.{List, [], _∷_, _++_}
 use lib.Ieee.{Float}
 use Rattle.level.specs.declared.Level.{Level}
+use Rattle.channels.specs.declared.Channel.{Channel}
 use Rattle.detector.specs.declared.FeatureDetector.{FeatureDetector}
 use Rattle.detector.specs.declared.floor.Smoothed.{Smoothed}
 use Rattle.detector.specs.declared.floor.Smoothed.the-variants as smoothed
@@ -49,5 +50,13 @@ ofStrand t = ofLevel (t .level) ++ ofDetector (t .detector) ++ ofDecision (t .de
 abbrev pub ofLoops : Loops → List Float
 ofLoops l = l .slow .0 ∷ l .mid .0 ∷ l .fast .0 ∷ l .«hold_remaining_seconds» ∷ []
 
+-- of the bed's channels after the first
+abbrev pub ofChannel : Channel → List Float
+ofChannel c = c .shelf .z1 ∷ c .shelf .z2 ∷ c .«high_pass» .z1 ∷ c .«high_pass» .z2 ∷ c .fast ∷ []
+
+abbrev pub ofChannels : List Channel → List Float
+ofChannels [] = []
+ofChannels (c ∷ cs) = ofChannel c ++ ofChannels cs
+
 unfoldable pub numbersOf : Chain → List Float
-numbersOf c = ofSettings (c .settings) ++ ofStrand (c .key) ++ ofStrand (c .bed) ++ ofLoops (c .loops)
+numbersOf c = ofSettings (c .settings) ++ ofStrand (c .key) ++ ofStrand (c .bed) ++ ofLoops (c .loops) ++ ofChannels (c .surround .others)

@@ -1,5 +1,6 @@
--- A chain that an image can hold: settings, strands and loops that an image can hold.
+-- A chain that an image can hold: settings, strands, loops and channels of the bed that an image can hold.
 use Rattle.vad.specs.Valid as strand
+use Rattle.channels.specs.Valid.{SurroundValid}
 use Rattle.comis.specs.Loops.{LoopsStored}
 use Rattle.settings.specs.Settings.{imageRanges}
 use Rattle.settings.specs.Valid.{SettingsValid}
@@ -10,3 +11,4 @@ pub record Valid (c : Chain) : Type 0 where
   pub key : strand.Valid (c .key)
   pub bed : strand.Valid (c .bed)
   pub loops : LoopsStored (c .loops)
+  pub surround : SurroundValid (c .surround)

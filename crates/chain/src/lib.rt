@@ -1,14 +1,20 @@
-// A chain: the key strand (0, the commentator), the bed strand (1), the settings and the ducker. A frame, a settings call or a reset gets an
-// answer or one refusal, and a refusal leaves the chain as it was.
+// A chain: the key strand (0, the commentator), the bed strand (1) with its channels, the settings and the ducker. A frame, a settings call, a reset
+// or a layout call gets an answer or one refusal, and a refusal leaves the chain as it was.
 ghost use mathlib.Core.Path.{_≡_};
 ghost use lib.ListN.{length};
+ghost use lib.ListN.{take};
 ghost use Rattle.level.specs.Bs1770.{frameLength};
+ghost use Rattle.level.specs.Weighing.{runOf};
+ghost use Rattle.level.specs.Level.{startOf};
 ghost use Rattle.paired_filters.specs.Pairs.{weighingAt, bandsAt};
-ghost use Rattle.chain.specs.StrandFrames.{Whole, finishedOf, strandFramesOf};
-ghost use Rattle.chain.specs.Chain.{freshOf, inputsOf, workOf, refusedOf, passedOf, judgedOf, frameOf, setOf, resetOf};
+ghost use Rattle.chain.specs.StrandFrames.{Whole, Heard, finishedOf, strandFramesOf};
+ghost use Rattle.chain.specs.Chain.{freshOf, inputsOf, workOf, refusedOf, passedOf, judgedOf, frameOf, setOf, resetOf, channelCount, bedLength, layoutOf};
+use channels::Surround;
 use comis::loop_bank::Loops;
 use float::Db;
+use layout::Layout;
 use level::FRAME;
+use level::Level;
 use paired_filters::Banded;
 use paired_filters::BandedPairs;
 use paired_filters::Side;
@@ -27,6 +33,7 @@ pub struct Chain {
     pub key: Strand,
     pub bed: Strand,
     pub loops: Loops,
+    pub surround: Surround,
 }
 
 // What a frame that passes is answered: the unrounded reduction of the bed, what is shown of it, and each strand's state.
@@ -53,22 +60,29 @@ pub enum Verdict {
     Refused(Refusal),
 }
 
-// The chain after a settings call or a reset, and what the call got.
+// The chain after a settings call, a reset or a layout call, and what the call got.
 pub struct Changed {
     pub chain: Chain,
     pub verdict: Verdict,
 }
 
+// A strand after a frame, and its channels.
+pub struct StrandFrame {
+    pub framed: vad::Framed,
+    pub surround: Surround,
+}
+
 // Both strands after a frame.
 pub struct StrandFrames {
-    pub key: vad::Framed,
-    pub bed: vad::Framed,
+    pub key: StrandFrame,
+    pub bed: StrandFrame,
 }
 
 // What a frame makes of a chain's strands and ducker, before anything of it is kept.
 pub struct Worked {
     pub key: vad::Framed,
     pub bed: vad::Framed,
+    pub surround: Surround,
     pub duck: ratio::Framed,
 }
 
@@ -78,20 +92,28 @@ fn no_outputs() -> [f64; FRAME]
     [0.0; FRAME]
 }
 
-// What follows the filters of one strand: both strands' filters, which of them it is, and the outputs of its pitch filter.
+// What follows the filters of one strand, which have heard its first channel: both strands' filters, which of them it is, the outputs of its pitch
+// filter, and the samples of all its channels. The key is the case of one channel. Called for both strands, this stays a function of its own, so that
+// the compiler stores what the filters leave in pairs and computes both strands with one instruction.
 fn finished(
     t: Strand,
+    surround: Surround,
     weighed: WeighedPairs,
     banded: BandedPairs,
     side: Side,
     pitch: &[f64; FRAME],
+    xs: &[f32],
     settings: VadSettings,
-) -> vad::Framed
-    ensures { λ r. ⌜ r ≡ finishedOf t (weighingAt weighed side) (bandsAt banded side) (now (pitch .entry)) settings ⌝ }
+) -> StrandFrame
+    ensures { λ r. ⌜ (weighingAt weighed side ≡ runOf (startOf (t .level)) (take frameLength (now (xs .entry))) → r ≡ finishedOf t surround (bandsAt banded side) (now (pitch .entry)) (now (xs .entry)) settings) ⌝ }
 {
-    let l = level::finish(weighed.strand(side), t.level.powers, FRAME);
+    let l = surround.frame(weighed.strand(side), t.level, xs);
     let h = t.detector.finish(banded.strand(side), pitch);
-    vad::finish(t.decision, l, h, settings)
+    let next = l.surround;
+    StrandFrame {
+        framed: vad::finish(t.decision, l.framed, h, settings),
+        surround: next,
+    }
 }
 
 // What the ducker reads of the two strands after a frame.
@@ -122,6 +144,7 @@ impl Chain {
         let settings = Settings::new();
         let key = Strand::new();
         let bed = Strand::new();
+        let surround = Surround::new();
         Self {
             settings,
             key,
@@ -132,12 +155,19 @@ impl Chain {
                 fast: Db(0.0),
                 hold_remaining_seconds: 0.0,
             },
+            surround,
         }
     }
 
-    // Key strand and bed strand, over the samples as f64.
-    fn strand_frames(self, xs: &[f64; FRAME], ys: &[f64; FRAME]) -> StrandFrames
-        ensures { λ r. ⌜ r ≡ strandFramesOf self (now (xs .entry)) (now (ys .entry)) ⌝ }
+    // Key strand and bed strand: the samples of the key and of the bed's first channel as f64, and those of all channels.
+    fn strand_frames(
+        self,
+        xs: &[f64; FRAME],
+        ys: &[f64; FRAME],
+        key: &[f32],
+        bed: &[f32],
+    ) -> StrandFrames
+        ensures { λ r. ⌜ (Heard (now (xs .entry)) (now (key .entry)) → Heard (now (ys .entry)) (now (bed .entry)) → r ≡ strandFramesOf self (now (xs .entry)) (now (ys .entry)) (now (key .entry)) (now (bed .entry))) ⌝ }
     {
         let weighed = Weighed {
             key: self.key.level.start(),
@@ -159,25 +189,46 @@ impl Chain {
         );
         let w = f.weighed;
         let b = f.banded;
+        let one = Surround::new();
         StrandFrames {
-            key: finished(self.key, w, b, Side::Key, &key_pitch, self.settings.key),
-            bed: finished(self.bed, w, b, Side::Bed, &bed_pitch, self.settings.bed),
+            key: finished(
+                self.key,
+                one,
+                w,
+                b,
+                Side::Key,
+                &key_pitch,
+                key,
+                self.settings.key,
+            ),
+            bed: finished(
+                self.bed,
+                self.surround,
+                w,
+                b,
+                Side::Bed,
+                &bed_pitch,
+                bed,
+                self.settings.bed,
+            ),
         }
     }
 
     // Key strand, bed strand, then the ducker. `frame` has tested both slices.
     fn work(self, key: &[f32], bed: &[f32]) -> Worked
-        requires { ⌜ Whole (now key) (now bed) ⌝ }
+        requires { ⌜ Whole (channelCount self) (now key) (now bed) ⌝ }
         ensures { λ r. ⌜ r ≡ workOf self (now (key .entry)) (now (bed .entry)) ⌝ }
     {
         let xs = detector::samples(key);
         let ys = detector::samples(bed);
-        let s = self.strand_frames(&xs, &ys);
-        let k = s.key;
-        let b = s.bed;
+        let s = self.strand_frames(&xs, &ys, key, bed);
+        let k = s.key.framed;
+        let b = s.bed.framed;
+        let surround = s.bed.surround;
         Worked {
             key: k,
             bed: b,
+            surround,
             duck: ratio::frame(self.loops, self.settings.duck, inputs(k, b)),
         }
     }
@@ -203,6 +254,7 @@ impl Chain {
         let key = k.strand;
         let bed = b.strand;
         let loops = d.loops;
+        let surround = w.surround;
         let reduction = d.reduction;
         let status = d.status;
         let key_state = k.state;
@@ -213,6 +265,7 @@ impl Chain {
                 key,
                 bed,
                 loops,
+                surround,
             },
             outcome: Outcome::Passed(Answer {
                 reduction,
@@ -236,11 +289,19 @@ impl Chain {
         self.refused(Refusal::Runaway)
     }
 
-    // One frame of 480 samples for each strand. Refusals 1, 2, 4, 5, in this order over both strands.
+    // How many samples a frame of the bed has: 480 for each channel of the layout in force.
+    fn bed_length(self) -> usize
+        ensures { λ r. ⌜ r ≡ bedLength self ⌝ }
+    {
+        sequence::most(self.surround.layout.channels(), 1) * FRAME
+    }
+
+    // One frame: 480 samples of the key, and of each of the bed's channels, one channel after the other. Refusals 1, 2, 4, 5, in this order over both
+    // strands.
     pub fn frame(self, key: &[f32], bed: &[f32]) -> Framed
         ensures { λ r. ⌜ r ≡ frameOf self (now (key .entry)) (now (bed .entry)) ⌝ }
     {
-        if (key.len() == FRAME) & (bed.len() == FRAME) {
+        if (key.len() == FRAME) & (bed.len() == self.bed_length()) {
             if float::all_finite32(key) & float::all_finite32(bed) {
                 return self.judged(self.work(key, bed));
             }
@@ -267,7 +328,7 @@ impl Chain {
         }
     }
 
-    // The key strand (0) or the bed strand (1) begins anew, its counts apart. Refusal 9.
+    // The key strand (0) or the bed strand (1) begins anew, its counts apart; the bed keeps its layout. Refusal 9.
     pub fn reset(self, strand: u64) -> Changed
         ensures { λ r. ⌜ r ≡ resetOf self strand ⌝ }
     {
@@ -281,6 +342,7 @@ impl Chain {
         }
         if strand == 1 {
             chain.bed = self.bed.reset();
+            chain.surround = Surround::of(self.surround.layout);
             return Changed {
                 chain,
                 verdict: Verdict::Passed,
@@ -289,6 +351,26 @@ impl Chain {
         Changed {
             chain: self,
             verdict: Verdict::Refused(Refusal::NoStrand),
+        }
+    }
+    // The bed's layout is replaced, and its level begins anew; all else of the bed stays. Refusal 10.
+    pub fn layout(self, l: Layout) -> Changed
+        ensures { λ r. ⌜ r ≡ layoutOf self l ⌝ }
+    {
+        if l.within() {
+            let mut bed = self.bed;
+            bed.level = Level::new();
+            let mut chain = self;
+            chain.bed = bed;
+            chain.surround = Surround::of(l.stored());
+            return Changed {
+                chain,
+                verdict: Verdict::Passed,
+            };
+        }
+        Changed {
+            chain: self,
+            verdict: Verdict::Refused(Refusal::BadLayout),
         }
     }
 }

@@ -53,7 +53,7 @@ here-cons {l} {i} {x} {xs} e h = record { at = go }
 pub here-none : (l : List ℕ) (i : ℕ) → Here l i []
 here-none l i = record { at = λ k b. absurd (omega arith) }
 
-here-join : {l : List ℕ} {i n : ℕ} (xs ys : List ℕ) → length xs ≡ n → Here l i xs → Here l (i + n) ys → Here l i (xs ++ ys)
+pub here-join : {l : List ℕ} {i n : ℕ} (xs ys : List ℕ) → length xs ≡ n → Here l i xs → Here l (i + n) ys → Here l i (xs ++ ys)
 here-join {l} {i} {n} xs ys e h g = record { at = go }
   where
     go : (k : ℕ) → k < length (xs ++ ys) → getD l (i + k) 0 ≡ getD (xs ++ ys) k 0
@@ -68,7 +68,7 @@ here-join {l} {i} {n} xs ys e h g = record { at = go }
 
 -- ---- the forms
 
-read-size : {A : Type 0} {c : Codec A} → CodecLaws c → (l : List ℕ) (i : ℕ) → length (c .enc (c .dec l i)) ≡ c .size
+pub read-size : {A : Type 0} {c : Codec A} → CodecLaws c → (l : List ℕ) (i : ℕ) → length (c .enc (c .dec l i)) ≡ c .size
 read-size {A} {c} q l i = q .size-is (c .dec l i) (q .sound l i)
 
 -- a whole list

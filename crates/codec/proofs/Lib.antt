@@ -5,3 +5,4 @@ pub mod Numbers
 pub mod Places
 pub mod Again
 pub mod Runs
+pub mod Rows

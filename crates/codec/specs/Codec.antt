@@ -4,8 +4,8 @@
 use mathlib.Core.Path.{_≡_}
 use mathlib.Core.Bool.{cond}
 use mathlib.Core.Option.{Option, none, some}
-use mathlib.Core.List.{List, [], _∷_}
-use Prim.Native.Nat.{ℕ, _+_, _^_, _<_}
+use mathlib.Core.List.{List, [], _∷_, _++_}
+use Prim.Native.Nat.{ℕ, _+_, _*_, _^_, _<_}
 use lib.Dec.{ltb, eqb}
 use lib.ListN.{length, getD}
 use Rattle.blocks.specs.Lists.{Words}
@@ -56,3 +56,12 @@ MaybeOk c (some x) = c .Good x
 
 unfoldable pub maybeOf : {A : Type 0} → Cell A → ℕ → ℕ → Option A
 maybeOf c u v = cond (eqb u 1) (some (c .read v)) none
+
+-- the words of some values, one value after another
+unfoldable pub rowsEnc : {A : Type 0} → (A → List ℕ) → List A → List ℕ
+rowsEnc f [] = []
+rowsEnc f (x ∷ xs) = f x ++ rowsEnc f xs
+
+-- value k of m, each of c's size, read from the words from place i on
+unfoldable pub rowAt : {A : Type 0} → Codec A → A → List ℕ → ℕ → ℕ → ℕ → A
+rowAt c blank l i m k = cond (ltb k m) (c .dec l (i + c .size * k)) blank

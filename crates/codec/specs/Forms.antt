@@ -1,8 +1,8 @@
--- The codecs of a field, of two in a row, of a counted list and of a value or none. Definitions only.
+-- The codecs of a field, of two in a row, of a counted list, of a value or none and of rows. Definitions only.
 use mathlib.Core.Bool.{Bool, false}
 use mathlib.Core.Option.{Option}
 use mathlib.Core.List.{List, [], _∷_, _++_, map}
-use Prim.Native.Nat.{ℕ, suc, _+_, _<_}
+use Prim.Native.Nat.{ℕ, suc, _+_, _*_, _<_}
 use lib.Dec.{T, eqb}
 use lib.ListN.{length, getD}
 use lib.Ieee.{Float, Format, binary32, binary64, toBits}
@@ -10,7 +10,7 @@ use Rattle.float.specs.Valid.{Num}
 use Rattle.sequence.specs.Counted.{Counted}
 use Rattle.blocks.specs.Lists.{table}
 use Rattle.codec.specs.Fields.{zeroOf, numOf, capped, flagBits, ruled}
-use Rattle.codec.specs.Codec.{Cell, Codec, valueAt, maybeEnc, MaybeOk, maybeOf}
+use Rattle.codec.specs.Codec.{Cell, Codec, valueAt, maybeEnc, MaybeOk, maybeOf, rowsEnc, rowAt}
 
 -- ---- one word
 
@@ -50,6 +50,15 @@ pair {A} {B} c d = record {
   Ok = λ p. c .Ok (p .0) × d .Ok (p .1);
 }
 
+-- one value after another, whose codec depends on the first; it takes n words in any case
+abbrev pub pair-by : {A B : Type 0} → Codec A → ℕ → (A → Codec B) → Codec (A × B)
+pair-by {A} {B} c n d = record {
+  size = c .size + n;
+  enc = λ p. c .enc (p .0) ++ d (p .0) .enc (p .1);
+  dec = λ l i. (c .dec l i, d (c .dec l i) .dec l (i + c .size));
+  Ok = λ p. c .Ok (p .0) × d (p .0) .Ok (p .1);
+}
+
 -- B is A in another form
 abbrev pub as-a : {A B : Type 0} → (B → A) → (A → B) → Codec A → Codec B
 as-a {A} {B} f g c = record { size = c .size; enc = λ b. c .enc (f b); dec = λ l i. g (c .dec l i); Ok = λ b. c .Ok (f b) }
@@ -72,3 +81,13 @@ counted {A} c n = record {
 
 abbrev pub maybe : {A : Type 0} → Cell A → Codec (Option A)
 maybe {A} c = record { size = 2; enc = maybeEnc c; dec = λ l i. maybeOf c (getD l i 0) (getD l (i + 1) 0); Ok = MaybeOk c }
+
+-- ---- n places, of which the first m hold values; the rest are blank
+
+abbrev pub rows : {A : Type 0} → Codec A → A → ℕ → ℕ → Codec (List A)
+rows {A} c blank n m = record {
+  size = c .size * n;
+  enc = rowsEnc (c .enc);
+  dec = λ l i. table (rowAt c blank l i m) n;
+  Ok = Counted (c .Ok) blank n m;
+}

@@ -3,6 +3,7 @@ use mathlib.Core.Path.{_≡_, refl, sym, ap, _∙_}
 use mathlib.Core.Bool.{Bool, true, false, true≢false}
 use mathlib.Core.List.{List, [], _∷_}
 use lib.ListN.{length}
+use borrow.Author.Tests.{eq-eqb}
 use lib.Ieee.{Float, fits, lt, ofBits}
 use Rattle.demands.specs.Calls.{empty, _▹_}
 use Rattle.demands.specs.Demands.{History, stateOf, modelOf}
@@ -14,22 +15,23 @@ use Rattle.float.specs.AllFinite.{allFinite}
 use Rattle.chain.specs.declared.Chain.{Chain}
 use Rattle.chain.specs.declared.Worked.{Worked}
 use Rattle.settings.specs.Settings.{storedOf}
-use Rattle.chain.specs.Chain.{freshOf, workOf, keptOf, withSettings, finiteIn, fullIn}
+use Rattle.chain.specs.Base.{widened, freshBase}
+use Rattle.chain.specs.Chain.{freshOf, workOf, keptOf, bedLength, withSettings, finiteIn, fullIn}
 use Rattle.chain.specs.Valid.{Valid}
 use Rattle.rules.specs.Rules.{HeldStrand, HeldDuck, Asked, Event, frame, settings, frameNumber, settingsNumber, rules}
 use Rattle.rules.specs.Rust as model
 use Rattle.dead_units.specs.Dead.{reductionOf, keyOnsets, bedOnsets, isFrame, NoDeadUnits}
-use Rattle.dead_units.proofs.Witness.{silence, click, lateWork, work-late, fresh-rests, keySpeaks, clickChain, computed}
+use Rattle.dead_units.proofs.Witness.{silence, click, lateWork, work-late, fresh-rests, keySpeaks, clickBase, computed}
 use Rattle.rules.proofs.Valid.{fresh-valid, next-valid}
 use Rattle.rules.proofs.AgreesRust.{Like, like-new, like-next, like-says}
 use Rattle.dead_units.proofs.Units.{stuck-fixed, repeating-repeats}
 
 -- ---- a frame passes by its tests
 
-frame-passes : (c : Chain) (key bed : List Float) (w : Worked) → length key ≡ frameLength → length bed ≡ frameLength → allFinite key ≡ true → allFinite bed ≡ true
+frame-passes : (c : Chain) (key bed : List Float) (w : Worked) → length key ≡ frameLength → length bed ≡ bedLength c → allFinite key ≡ true → allFinite bed ≡ true
     → workOf c key bed ≡ w → finiteIn w ≡ true → fullIn w ≡ false → frameNumber c key bed ≡ 0
 unfolding frameNumber
-frame-passes c key bed w m n p q e f g = rw (e, f, g, p, q, m, n)
+frame-passes c key bed w m n p q e f g = rw (e, f, g, p, q, eq-eqb (length key) frameLength m, eq-eqb (length bed) (bedLength c) n)
 
 -- ---- the history: a silent frame, then a settings call
 
@@ -54,32 +56,32 @@ asked = record { values = keySpeaks; key = key-held; bed = bed-held; duck = duck
 abbrev clickFrame : Event
 clickFrame = frame click click
 
-silent-work : workOf freshOf silence silence ≡ lateWork freshOf 480 []
-silent-work = work-late freshOf fresh-rests fresh-rests 480 [] refl
+silent-work : workOf freshOf silence silence ≡ lateWork freshBase 480 []
+silent-work = work-late freshBase fresh-rests fresh-rests 480 [] refl
 
 silent-passes : frameNumber freshOf silence silence ≡ 0
 silent-passes =
-    frame-passes freshOf silence silence (lateWork freshOf 480 []) refl refl (computed .silence-sound) (computed .silence-sound) silent-work
+    frame-passes freshOf silence silence (lateWork freshBase 480 []) refl refl (computed .silence-sound) (computed .silence-sound) silent-work
     (computed .silent-finite) (computed .silent-room)
 
 settings-pass : settingsNumber keySpeaks ≡ 0
 unfolding settingsNumber
 settings-pass = rw (computed .in-range)
 
-click-work : workOf clickChain click click ≡ lateWork clickChain 479 (one64 ∷ [])
-click-work = work-late clickChain (computed .key-rests) (computed .bed-rests) 479 (one64 ∷ []) refl
+click-work : workOf (widened clickBase) click click ≡ lateWork clickBase 479 (one64 ∷ [])
+click-work = work-late clickBase (computed .key-rests) (computed .bed-rests) 479 (one64 ∷ []) refl
 
 -- the rules' chain before the click
 abbrev before : Chain
 before = withSettings (keptOf freshOf (workOf freshOf silence silence)) (storedOf keySpeaks)
 
-before-is : before ≡ clickChain
+before-is : before ≡ widened clickBase
 before-is = ap (λ (w : Worked). withSettings (keptOf freshOf w) (storedOf keySpeaks)) silent-work
 
 click-passes : frameNumber before click click ≡ 0
 click-passes =
     ap (λ (c : Chain). frameNumber c click click) before-is
-    ∙ frame-passes clickChain click click (lateWork clickChain 479 (one64 ∷ [])) refl refl (computed .click-sound) (computed .click-sound) click-work
+    ∙ frame-passes (widened clickBase) click click (lateWork clickBase 479 (one64 ∷ [])) refl refl (computed .click-sound) (computed .click-sound) click-work
     (computed .click-finite) (computed .click-room)
 
 -- ---- what the Rust says

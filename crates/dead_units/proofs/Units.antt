@@ -5,26 +5,27 @@ use mathlib.Core.Bool.{Bool, true, false, cond, true≢false}
 use mathlib.Core.List.{List, []}
 use lib.Dec.{eqb}
 use lib.Ieee.{Float, lt, ofBits}
-use Rattle.refusal.specs.declared.Refusal.the-variants.{BadSetting, NoStrand}
+use Rattle.refusal.specs.declared.Refusal.the-variants.{BadSetting, NoStrand, BadLayout}
 use Rattle.demands.specs.Calls.{Log, empty, _▹_, Reply, answer, passed, Step, gets, Calls, eventCalls}
 use Rattle.demands.specs.Demands.{from, after, sees}
 use Rattle.demands.specs.Dead.{None, First, now, earlier, Fixed, Repeats}
 use Rattle.demands.proofs.Dead.{same-answer, always-fixed}
 use Rattle.float.specs.Arithmetic.{zero64}
-use Rattle.vad.specs.Strand as strand
+use Rattle.layout.specs.declared.Layout.{Layout}
+use Rattle.layout.specs.Layout.{layoutWithin}
 use Rattle.comis.specs.declared.loop_bank.Loops.{Loops}
 use Rattle.chain.specs.declared.Chain.{Chain}
 use Rattle.settings.specs.declared.Settings.{Settings}
 use Rattle.settings.specs.Settings.{callRanges, outsideSettings, storedOf}
-use Rattle.chain.specs.Chain.{freshOf, changed, unchanged, withSettings, withKey, withBed, setOf, resetOf}
-use Rattle.rules.specs.Rules.{Event, frame, settings, reset, Answered, shown, rules, port}
+use Rattle.chain.specs.Chain.{freshOf, changed, unchanged, withSettings, keyAnew, bedAnew, laidOut, setOf, resetOf, layoutOf}
+use Rattle.rules.specs.Rules.{Event, frame, settings, reset, layout, Answered, shown, rules, port}
 use Rattle.rules.specs.Rust.{rust}
 use Rattle.dead_units.specs.Dead.{reductionOf, isFrame, answering, stuck, remembering, remembers, remembered, firstFrame, repeating}
 
 pub stuck-fixed : (x : Float) → Fixed rules isFrame rust reductionOf (stuck x)
 stuck-fixed x = always-fixed rules isFrame rust reductionOf (shown (answering x)) port
 
--- ---- a settings call and a reset leave the loops
+-- ---- a settings call, a reset and a layout call leave the loops
 
 set-loops : (c : Chain) (s : Settings) → setOf c s .chain .loops ≡ c .loops
 unfolding setOf
@@ -38,10 +39,18 @@ reset-loops : (c : Chain) (n : ℕ) → resetOf c n .chain .loops ≡ c .loops
 unfolding resetOf
 reset-loops c n = go (eqb n 0) (eqb n 1)
   where
-    go : (x y : Bool) → cond x (changed (withKey c (strand.resetOf (c .key)))) (cond y (changed (withBed c (strand.resetOf (c .bed)))) (unchanged c NoStrand)) .chain .loops ≡ c .loops
+    go : (x y : Bool) → cond x (changed (keyAnew c)) (cond y (changed (bedAnew c)) (unchanged c NoStrand)) .chain .loops ≡ c .loops
     go true y = refl
     go false true = refl
     go false false = refl
+
+layout-loops : (c : Chain) (l : Layout) → layoutOf c l .chain .loops ≡ c .loops
+unfolding layoutOf
+layout-loops c l = go (layoutWithin l)
+  where
+    go : (b : Bool) → cond b (changed (laidOut c l)) (unchanged c BadLayout) .chain .loops ≡ c .loops
+    go true = refl
+    go false = refl
 
 -- ---- the unit that repeats
 
@@ -73,6 +82,7 @@ forgets empty n = fresh-forgets
 forgets (es ▹ frame key bed) n = absurd (true≢false (n .1))
 forgets (es ▹ settings a) n = ap holding (set-loops (chainAfter es) (a .values)) ∙ forgets es (n .0)
 forgets (es ▹ reset k) n = ap holding (reset-loops (chainAfter es) k) ∙ forgets es (n .0)
+forgets (es ▹ layout l) n = ap holding (layout-loops (chainAfter es) l) ∙ forgets es (n .0)
 
 -- a frame, by whether the chain remembers
 module _ (c : Chain) (key bed : List Float) where
@@ -95,6 +105,7 @@ stays : (c : Chain) (e : Event) (x : Float) → Keeps c x → Keeps (repeating c
 stays c (frame key bed) x k = ap (λ (s : Step Chain Answered). s .state .loops) (later-frame c key bed x k) ∙ k
 stays c (settings a) x k = set-loops c (a .values) ∙ k
 stays c (reset n) x k = reset-loops c n ∙ k
+stays c (layout l) x k = layout-loops c l ∙ k
 
 not-a-frame : {Q : Type 0} → _≡_ {A = Bool} false true → Q
 not-a-frame h = absurd (true≢false (sym h))
@@ -109,6 +120,7 @@ begins bs (frame key bed) a n s q =
     ap (λ (s : Step Chain Answered). s .state .loops) p ∙ keeps-reply c r a (sym (ap (λ (s : Step Chain Answered). s .seen .reply) p) ∙ q)
 begins bs (settings b) a n s q = not-a-frame s
 begins bs (reset k) a n s q = not-a-frame s
+begins bs (layout l) a n s q = not-a-frame s
 
 keeps : {es bs : Log Event} {f : Event} → First rules isFrame es bs f → (a : Answered) → sees rules U repeating bs f .reply ≡ passed (answer a) → Keeps (chainAfter es) (reductionOf a)
 unfolding from
@@ -122,6 +134,7 @@ repeated c (frame key bed) x a k s q =
     ap reductionOf (same-answer (sym q ∙ p)) ∙ ap (λ (l : Loops). l .slow .0) k
 repeated c (settings b) x a k s q = not-a-frame s
 repeated c (reset n) x a k s q = not-a-frame s
+repeated c (layout l) x a k s q = not-a-frame s
 
 alike : (h past : Log Event) (e f : Event) (a a₁ : Answered) → First rules isFrame (h ▹ e) past f → isFrame e ≡ true
     → sees rules U repeating past f .reply ≡ passed (answer a₁) → sees rules U repeating h e .reply ≡ passed (answer a) → reductionOf a ≡ reductionOf a₁

@@ -1,6 +1,6 @@
 -- Concrete histories: a silent frame on a fresh chain passes and reduces nothing; after it and a settings call a frame with a click reduces the bed.
 use Prim.Native.Nat.{ℕ}
-use mathlib.Core.Path.{_≡_, refl}
+use mathlib.Core.Path.{_≡_, refl, _∙_}
 use mathlib.Core.Bool.{true, false}
 use mathlib.Core.List.{List, [], _∷_}
 use lib.ListN.{length}
@@ -41,7 +41,10 @@ use Rattle.settings.specs.declared.Settings.{Settings}
 use Rattle.chain.specs.declared.Chain.{Chain}
 use Rattle.chain.specs.declared.Worked.{Worked}
 use Rattle.settings.specs.Settings.{callRanges, outsideOf, outsideStrand, outsideDuck, outsideSettings, storedOf, storedStrand, storedDuck, zeroedOf, freshDuck}
-use Rattle.chain.specs.Chain.{freshOf, inputsOf, workedOf, workOf, keptOf, withSettings, finiteIn, fullIn}
+use Rattle.channels.specs.Surround.{monoSurround}
+use Rattle.chain.specs.Base.{Base, widened, freshBase, baseWork}
+use Rattle.chain.specs.Chain.{freshOf, inputsOf, workedOf, workOf, keptOf, finiteIn, fullIn}
+use Rattle.rules.proofs.Mono.{work-is}
 use Rattle.dead_units.proofs.Silence.{Rests, lateFrame, lateOf, strand-late}
 
 abbrev pub silence : List Float
@@ -50,21 +53,23 @@ silence = lateFrame 480 []
 abbrev pub click : List Float
 click = lateFrame 479 (one64 ∷ [])
 
--- what a frame with n zeros first makes of a chain whose strands are at rest
-abbrev pub lateWork : Chain → ℕ → List Float → Worked
-lateWork c n xs = workedOf c (lateOf (c .key) n xs (c .settings .key)) (lateOf (c .bed) n xs (c .settings .bed))
+-- what a frame with n zeros first makes of a chain with one channel whose strands are at rest
+abbrev pub lateWork : Base → ℕ → List Float → Worked
+lateWork b n xs = workedOf (widened b) (lateOf (b .key) n xs (b .settings .key)) (lateOf (b .bed) n xs (b .settings .bed)) monoSurround
 
-pub work-late : (c : Chain) → Rests (c .key) → Rests (c .bed) → (n : ℕ) (xs : List Float) → length (lateFrame n xs) ≡ 480
-    → workOf c (lateFrame n xs) (lateFrame n xs) ≡ lateWork c n xs
-unfolding workOf
-work-late c k b n xs e = λ i. workedOf c (strand-late (c .key) k n xs e (c .settings .key) i) (strand-late (c .bed) b n xs e (c .settings .bed) i)
+pub work-late : (b : Base) → Rests (b .key) → Rests (b .bed) → (n : ℕ) (xs : List Float) → length (lateFrame n xs) ≡ 480
+    → workOf (widened b) (lateFrame n xs) (lateFrame n xs) ≡ lateWork b n xs
+unfolding baseWork
+work-late b k d n xs e =
+    work-is b (lateFrame n xs) (lateFrame n xs) e
+    ∙ (λ i. workedOf (widened b) (strand-late (b .key) k n xs e (b .settings .key) i) (strand-late (b .bed) d n xs e (b .settings .bed) i) monoSurround)
 
-pub fresh-rests : Rests (freshOf .key)
+pub fresh-rests : Rests (freshBase .key)
 fresh-rests = record { level = refl; filters = refl }
 
 -- the chain after a silent frame
 abbrev pub quietChain : Chain
-quietChain = keptOf freshOf (lateWork freshOf 480 [])
+quietChain = keptOf freshOf (lateWork freshBase 480 [])
 
 -- key threshold 0 and bed threshold 1, so that the key alone speaks, and gates at 0 LUFS
 abbrev strandAt : Float → VadSettings
@@ -73,19 +78,19 @@ strandAt threshold = record { threshold = threshold; «hold_ms» = ofBits binary
 abbrev pub keySpeaks : Settings
 keySpeaks = record { key = strandAt zero64; bed = strandAt one64; duck = freshDuck }
 
-abbrev pub clickChain : Chain
-clickChain = withSettings quietChain (storedOf keySpeaks)
+abbrev pub clickBase : Base
+clickBase = record { settings = storedOf keySpeaks; key = quietChain .key; bed = quietChain .bed; loops = quietChain .loops }
 
 -- by computation
 pub record Computed : Type 0 where
-  pub silent-finite : finiteIn (lateWork freshOf 480 []) ≡ true
-  pub silent-room : fullIn (lateWork freshOf 480 []) ≡ false
-  pub silent-reduction : lt zero64 (lateWork freshOf 480 [] .duck .reduction .0) ≡ false
+  pub silent-finite : finiteIn (lateWork freshBase 480 []) ≡ true
+  pub silent-room : fullIn (lateWork freshBase 480 []) ≡ false
+  pub silent-reduction : lt zero64 (lateWork freshBase 480 [] .duck .reduction .0) ≡ false
   pub key-rests : Rests (quietChain .key)
   pub bed-rests : Rests (quietChain .bed)
-  pub click-finite : finiteIn (lateWork clickChain 479 (one64 ∷ [])) ≡ true
-  pub click-room : fullIn (lateWork clickChain 479 (one64 ∷ [])) ≡ false
-  pub click-reduction : lt zero64 (lateWork clickChain 479 (one64 ∷ []) .duck .reduction .0) ≡ true
+  pub click-finite : finiteIn (lateWork clickBase 479 (one64 ∷ [])) ≡ true
+  pub click-room : fullIn (lateWork clickBase 479 (one64 ∷ [])) ≡ false
+  pub click-reduction : lt zero64 (lateWork clickBase 479 (one64 ∷ []) .duck .reduction .0) ≡ true
   pub in-range : outsideSettings callRanges keySpeaks ≡ false
   pub silence-sound : allFinite silence ≡ true
   pub click-sound : allFinite click ≡ true

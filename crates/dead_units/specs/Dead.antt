@@ -13,7 +13,7 @@ use Rattle.comis.specs.LoopBank.{db}
 use Rattle.ratio.specs.Frame.{disabledStatus}
 use Rattle.chain.specs.declared.Chain.{Chain}
 use Rattle.chain.specs.declared.Answer.{Answer}
-use Rattle.rules.specs.Rules.{Event, frame, settings, reset, Answered, shown, noted, rules, port}
+use Rattle.rules.specs.Rules.{Event, frame, settings, reset, layout, Answered, shown, noted, rules, port}
 use Rattle.rules.specs.Rust.{rust}
 
 -- the reduction in an answer, dB
@@ -34,8 +34,9 @@ abbrev pub isFrame : Event → Bool
 isFrame (frame key bed) = true
 isFrame (settings a) = false
 isFrame (reset n) = false
+isFrame (layout l) = false
 
--- ---- no unit of these sorts meets the demands, whatever it does with settings calls and resets
+-- ---- no unit of these sorts meets the demands, whatever it does with other calls
 
 pub record NoDeadUnit (unit : Port rules (eventCalls rules)) : Type 0 where
   -- a ducker that always answers 0 dB, or any other fixed reduction, to a frame
@@ -54,11 +55,11 @@ pub record NoDeadUnit (unit : Port rules (eventCalls rules)) : Type 0 where
 abbrev pub answering : Float → Answer
 answering x = record { reduction = db x; status = disabledStatus zero64; key = quiet 0 0; bed = quiet 0 0 }
 
--- Always x dB to a frame; settings calls and resets as the port does them.
+-- Always x dB to a frame; other calls as the port does them.
 abbrev pub stuck : Float → Port rules (eventCalls rules)
 stuck x = always rules isFrame (shown (answering x)) port
 
--- Works on the first frame that passes, and repeats its reduction; settings calls and resets as the port does them. It remembers the reduction
+-- Works on the first frame that passes, and repeats its reduction; other calls as the port does them. It remembers the reduction
 -- in the place of the slow loop, and that it has one in the place of the hold.
 abbrev pub remembering : Float → Loops
 remembering x = record { slow = db x; mid = db zero64; fast = db zero64; «hold_remaining_seconds» = one64 }
@@ -67,7 +68,7 @@ abbrev pub remembers : Chain → Bool
 remembers c = lt zero64 (c .loops .«hold_remaining_seconds»)
 
 abbrev pub withLoops : Chain → Loops → Chain
-withLoops c l = record { settings = c .settings; key = c .key; bed = c .bed; loops = l }
+withLoops c l = record { settings = c .settings; key = c .key; bed = c .bed; loops = l; surround = c .surround }
 
 -- the chain c after a first frame that got this reply
 abbrev pub remembered : Chain → Reply Answered → Chain
@@ -83,11 +84,12 @@ repeating c (frame key bed) =
     cond (remembers c) (gets (passed (answer (shown (answering (c .loops .slow .0))))) [] c) (firstFrame c (port c (frame key bed) .seen .reply))
 repeating c (settings a) = port c (settings a)
 repeating c (reset n) = port c (reset n)
+repeating c (layout l) = port c (layout l)
 
 pub record NoDeadUnits : Type 0 where
   -- whatever the unit is
   pub none : (unit : Port rules (eventCalls rules)) → NoDeadUnit unit
   -- a unit that answers 3 dB to every frame, or any other reduction, is fixed, and passes settings calls
   pub stuck-fixed : (x : Float) → Fixed rules isFrame rust reductionOf (stuck x)
-  -- one that works on the first frame and repeats it does so also where settings calls and resets come before it
+  -- one that works on the first frame and repeats it does so also where other calls come before it
   pub repeating-repeats : Repeats rules isFrame rust reductionOf repeating

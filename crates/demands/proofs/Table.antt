@@ -1,4 +1,4 @@
--- The refusal table: the numbers are those from 1 to 9, and two refusals with one number are the same.
+-- The refusal table: the numbers are those from 1 to 10, and two refusals with one number are the same.
 use mathlib.Core.Path.{_≡_, refl, sym, ap, _∙_}
 use mathlib.Core.Bool.{Bool, true, false}
 use mathlib.Core.List.{List, [], _∷_}
@@ -6,11 +6,11 @@ use Prim.Native.Nat.{ℕ, zero, suc, _+_, _≤_, _<_}
 use native.Mathlib.Omega.{arith}
 use lib.ListN.{length}
 use Rattle.refusal.specs.declared.Refusal.{Refusal}
-use Rattle.refusal.specs.declared.Refusal.the-variants.{ShortFrame, BadSample, BadSetting, Runaway, CounterFull, WrongLength, BadCheck, ForeignImage, NoStrand}
+use Rattle.refusal.specs.declared.Refusal.the-variants.{ShortFrame, BadSample, BadSetting, Runaway, CounterFull, WrongLength, BadCheck, ForeignImage, NoStrand, BadLayout}
 use Rattle.refusal.specs.Table.{numberOf, InTable, Row, _means_, firstNumber}
 
--- each number is from 1 to 9
-pub number-range : (r : Refusal) → (1 ≤ numberOf r) × (numberOf r ≤ 9)
+-- each number is from 1 to 10
+pub number-range : (r : Refusal) → (1 ≤ numberOf r) × (numberOf r ≤ 10)
 number-range ShortFrame = (omega arith, omega arith)
 number-range BadSample = (omega arith, omega arith)
 number-range BadSetting = (omega arith, omega arith)
@@ -20,18 +20,19 @@ number-range WrongLength = (omega arith, omega arith)
 number-range BadCheck = (omega arith, omega arith)
 number-range ForeignImage = (omega arith, omega arith)
 number-range NoStrand = (omega arith, omega arith)
+number-range BadLayout = (omega arith, omega arith)
 
 -- the refusals in the table's order, and the one at a place, counted from 0
 abbrev table : List Refusal
-table = ShortFrame ∷ BadSample ∷ BadSetting ∷ Runaway ∷ CounterFull ∷ WrongLength ∷ BadCheck ∷ ForeignImage ∷ NoStrand ∷ []
+table = ShortFrame ∷ BadSample ∷ BadSetting ∷ Runaway ∷ CounterFull ∷ WrongLength ∷ BadCheck ∷ ForeignImage ∷ NoStrand ∷ BadLayout ∷ []
 
 abbrev at : List Refusal → ℕ → Refusal
-at [] n = NoStrand
+at [] n = BadLayout
 at (r ∷ rs) zero = r
 at (r ∷ rs) (suc n) = at rs n
 
 abbrev refusalAt : ℕ → Refusal
-refusalAt zero = NoStrand
+refusalAt zero = BadLayout
 refusalAt (suc n) = at table n
 
 read-back : (r : Refusal) → refusalAt (numberOf r) ≡ r
@@ -44,6 +45,7 @@ read-back WrongLength = refl
 read-back BadCheck = refl
 read-back ForeignImage = refl
 read-back NoStrand = refl
+read-back BadLayout = refl
 
 -- two refusals with one number are the same
 pub number-inj : (r t : Refusal) → numberOf r ≡ numberOf t → r ≡ t
@@ -59,11 +61,11 @@ numbered-at [] k n h l = absurd (omega arith)
 numbered-at (r ∷ rs) k zero h l = (r, omega (arith, h .0))
 numbered-at (r ∷ rs) k (suc n) h l = let w = numbered-at rs (suc k) n (h .1) (omega arith) in (w .0, omega (arith, w .1))
 
--- every number from 1 to 9 is in the table
-pub in-table : (n : ℕ) → (n ≡ 0 → ⊥) → n ≤ 9 → InTable n
+-- every number from 1 to 10 is in the table
+pub in-table : (n : ℕ) → (n ≡ 0 → ⊥) → n ≤ 10 → InTable n
 in-table zero h l = absurd (h refl)
 in-table (suc n) h l =
-    let w = numbered-at table 1 n (refl, (refl, (refl, (refl, (refl, (refl, (refl, (refl, (refl, tt))))))))) (omega arith) in
+    let w = numbered-at table 1 n (refl, (refl, (refl, (refl, (refl, (refl, (refl, (refl, (refl, (refl, tt)))))))))) (omega arith) in
     (w .0, omega (arith, w .1))
 
 -- ---- rows in order

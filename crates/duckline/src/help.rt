@@ -8,10 +8,21 @@ pub fn print() {
         b"duckline: by how much a stadium goes down under its commentator\n\
           \n\
           tools/weave KEY BED | duckline > lines\n\
+          tools/weave --bed 5.1 KEY BED | duckline --bed 5.1 > lines\n\
           \n\
-          Reads frames from standard input, with fresh settings. A frame is 10 ms, 3,840 bytes:\n\
-          480 samples of the key (the commentator), then 480 of the bed (the stadium), at 48 kHz,\n\
-          each a 32-bit float, little-endian. tools/weave makes frames of two recordings.\n\
+          Reads frames from standard input, with fresh settings. A frame is 10 ms: 480 samples of\n\
+          the key (the commentator), then 480 of each channel of the bed (the stadium), one channel\n\
+          after the other, at 48 kHz, each a 32-bit float, little-endian. tools/weave makes frames\n\
+          of two recordings.\n\
+          \n\
+          --bed LAYOUT says which channels the bed has, in ffmpeg's order, and where they are, in\n\
+          degrees to the left:\n\
+          \x20 mono    one, at 0, as without --bed: a frame has 3,840 bytes\n\
+          \x20 stereo  FL 30, FR -30: 5,760 bytes\n\
+          \x20 5.1     FL 30, FR -30, FC 0, LFE, BL 110, BR -110: 13,440 bytes\n\
+          \x20 7.1     FL 30, FR -30, FC 0, LFE, BL 135, BR -135, SL 90, SR -90: 17,280 bytes\n\
+          The bed's loudness is that of all channels by BS.1770-4; whether it speaks is heard in\n\
+          the first.\n\
           \n\
           Writes a line for each frame to standard output, at once:\n\
           \x20 NUMBER STATE KEY BED REDUCTION\n\

@@ -1,2 +1,3 @@
+pub mod Layouts
 pub mod Ran
 pub mod Cut

@@ -4,10 +4,11 @@ use mathlib.Core.List.{List, [], _++_}
 use Prim.Native.Nat.{ℕ, _*_, _/_, _≤_}
 use lib.ListN.{length, take, drop}
 use Rattle.demands.specs.Calls.{Log, empty, _▹_}
+use Rattle.layout.specs.declared.Layout.{Layout}
 use Rattle.chain.specs.declared.Chain.{Chain}
 use Rattle.frame_bytes.specs.Bytes.{frameBytes, bufferBytes}
 use Rattle.line_text.specs.Line.{textBytes, shortLine}
-use Rattle.ducklines.specs.Frames.{freshRun, ranOf, afterReadIn}
+use Rattle.ducklines.specs.Frames.{countOf, freshRun, ranOf, afterReadIn}
 use Rattle.ducklines.specs.declared.Run.{Run}
 
 -- duckline between two reads: the chain, the number of the frame that comes next, the bytes that are held, and all text so far
@@ -17,21 +18,23 @@ pub record Reading : Type 0 where
   pub held : List ℕ
   pub text : List ℕ
 
-abbrev pub beginning : Reading
-beginning = record { chain = freshRun .chain; number = freshRun .number; held = []; text = [] }
+-- before the first read, with this layout of the bed
+abbrev pub beginning : Layout → Reading
+beginning l = record { chain = freshRun l .chain; number = freshRun l .number; held = []; text = [] }
 
 -- a read brings some bytes: the whole frames among those that are there now get their lines, and the rest is held
 unfoldable pub readOf : Reading → List ℕ → Reading
 readOf s got =
     let b = s .held ++ got in
-    let k = length b / frameBytes in
-    let r = ranOf (s .chain) (s .number) b k in
-    record { chain = r .chain; number = r .number; held = drop (k * frameBytes) b; text = s .text ++ r .text }
+    let m = countOf (s .chain) in
+    let k = length b / frameBytes m in
+    let r = ranOf m (s .chain) (s .number) b k in
+    record { chain = r .chain; number = r .number; held = drop (k * frameBytes m) b; text = s .text ++ r .text }
 
 -- after a list of reads
-unfoldable pub readsOf : Log (List ℕ) → Reading
-readsOf empty = beginning
-readsOf (rs ▹ got) = readOf (readsOf rs) got
+unfoldable pub readsOf : Layout → Log (List ℕ) → Reading
+readsOf l empty = beginning l
+readsOf l (rs ▹ got) = readOf (readsOf l rs) got
 
 -- all that a list of reads brings
 abbrev pub joined : Log (List ℕ) → List ℕ
@@ -43,15 +46,15 @@ abbrev pub writtenOf : Reading → List ℕ
 writtenOf s = s .text ++ shortLine (length (s .held))
 
 -- what is written of an input
-abbrev pub outputOf : List ℕ → List ℕ
-outputOf b = writtenOf (readOf beginning b)
+abbrev pub outputOf : Layout → List ℕ → List ℕ
+outputOf l b = writtenOf (readOf (beginning l) b)
 
--- THE PROMISE
+-- THE PROMISE, for every layout of the bed
 pub record AnyReads : Type 0 where
   -- reads lead to what one read leads to that brings all of it,
-  pub same : (rs : Log (List ℕ)) → readsOf rs ≡ readOf beginning (joined rs)
+  pub same : (l : Layout) (rs : Log (List ℕ)) → readsOf l rs ≡ readOf (beginning l) (joined rs)
   -- so that the output is the input's, whatever the reads are
-  pub written : (rs : Log (List ℕ)) → writtenOf (readsOf rs) ≡ outputOf (joined rs)
+  pub written : (l : Layout) (rs : Log (List ℕ)) → writtenOf (readsOf l rs) ≡ outputOf l (joined rs)
   -- The code does with a read what `readOf` says. The first n bytes of the buffer are those that were held and those that came; the text has room
   -- for 16 lines of 64 bytes, and begins with the new ones.
   pub code : (s : Run) (b t held got text : List ℕ) (n : ℕ) → n ≤ length b → n ≤ bufferBytes → length t ≡ textBytes → take n b ≡ held ++ got

@@ -8,9 +8,10 @@ use Rattle.chain.specs.declared.Chain.{Chain}
 use Rattle.chain.specs.declared.Changed.{Changed}
 use Rattle.chain.specs.declared.Framed.{Framed}
 use Rattle.settings.specs.declared.Settings.{Settings}
+use Rattle.layout.specs.declared.Layout.{Layout}
 use Rattle.chain.specs.declared.Verdict.{Verdict}
-use Rattle.chain.specs.Chain.{frameOf, setOf, resetOf}
-use Rattle.rules.specs.Rules.{HeldStrand, HeldDuck, Asked, frame, settings, reset, Answered, afterFrame, afterChange}
+use Rattle.chain.specs.Chain.{frameOf, setOf, resetOf, layoutOf}
+use Rattle.rules.specs.Rules.{HeldStrand, HeldDuck, Asked, frame, settings, reset, layout, Answered, afterFrame, afterChange}
 use Rattle.image.specs.Image.{saveVerdict, savedIn, restoreOf}
 use Rattle.image.specs.Port.{port}
 use Rattle.freightpetal.specs.Steps.{afterSave, afterRestore}
@@ -28,6 +29,9 @@ module _ (c : Chain) where
 
   pub on-reset : (n : ℕ) (r : Changed) → r ≡ resetOf c n → (r ≡ resetOf c n) × (afterChange r ≡ port c (event (reset n)))
   on-reset n r e = (e, ap {B = Does} afterChange e)
+
+  pub on-layout : (l : Layout) (r : Changed) → r ≡ layoutOf c l → (r ≡ layoutOf c l) × (afterChange r ≡ port c (event (layout l)))
+  on-layout l r e = (e, ap {B = Does} afterChange e)
 
   pub on-save : (b b′ : List ℕ) (r : Verdict) → r ≡ saveVerdict b → b′ ≡ savedIn c b
       → (r ≡ saveVerdict b) × (b′ ≡ savedIn c b) × (afterSave c r b′ ≡ port c (save b))

@@ -5,7 +5,7 @@ use mathlib.Core.List.{List, []}
 use lib.Dec.{eqb}
 use Prim.Native.Nat.{ℕ, zero, suc}
 use native.Mathlib.Omega.{arith}
-use borrow.Author.Tests.{eq-eqb, ne-eqb}
+use borrow.Author.Tests.{eq-eqb, eqb-true}
 use lib.Ieee.{Float}
 use lib.ListN.{length}
 use Rattle.refusal.specs.Table.{numberOf}
@@ -20,18 +20,18 @@ use Rattle.chain.specs.declared.Outcome.{Outcome}
 use Rattle.chain.specs.declared.Outcome.the-variants as outcome
 use Rattle.chain.specs.declared.Verdict.{Verdict}
 use Rattle.chain.specs.declared.Verdict.the-variants as verdict
-use Rattle.chain.specs.Chain.{freshOf, frameOf, setOf, resetOf}
-use Rattle.rules.specs.Rules.{Event, frame, settings, reset, Answered, rules, refuses, replyOf, notedOf}
+use Rattle.chain.specs.Chain.{freshOf, frameOf, changed, unchanged, setOf, resetOf, layoutOf}
+use Rattle.rules.specs.Rules.{Event, frame, settings, reset, layout, Answered, rules, refuses, replyOf, notedOf}
 use Rattle.rules.specs.Rules as events
 use Rattle.chain.specs.Valid.{Valid}
 use Rattle.rules.proofs.Laws.{refused, passes}
 use Rattle.image.specs.Layout.{imageBytes}
-use Rattle.image.specs.Image.{image, refusesImage, saveVerdict, savedIn, restoreOf}
+use Rattle.image.specs.Image.{image, meaning, refusesImage, saveVerdict, savedIn, restoreOf}
 use Rattle.image.specs.Port.{images, port}
 use Rattle.image.specs.Port as images
-use Rattle.image.proofs.Laws.{image-length, image-accepted, accepted-image, read-accepted, restore-accepted, restore-unchanged, restore-image}
+use Rattle.image.proofs.Laws.{image-length, image-accepted, meaning-valid, present, restore-accepted, restore-unchanged, restore-image}
 use Rattle.image.proofs.Plug.{all-laws}
-use Rattle.freightpetal_c.specs.Lent.{codeOf, codeIn, Answered as Told, heardIn, framedIn, openedFrame, frameIn, savedAs, changedIn, openedSet, setIn, openedReset, resetIn}
+use Rattle.freightpetal_c.specs.Lent.{codeOf, openOf, codeIn, Answered as Told, heardIn, framedIn, openedFrame, frameIn, savedAs, changedIn, openedBy, changeIn, restoreIn}
 use Rattle.freightpetal_c.specs.Laws.{leftBy, Done, doneBy, lentFrom, numberIn, doneIn, wordsAfter, frameDone, chainFrom, LentLaws}
 
 -- a save into bytes of the right length writes the image
@@ -45,6 +45,11 @@ passed-right b e = rw (eq-eqb (length b) imageBytes e)
 
 over-image : (c d : Chain) → Valid d → savedIn c (image d) ≡ image c
 over-image c d v = save-right c (image d) (image-length d v)
+
+-- a chain's image is opened as the chain
+open-image : (c : Chain) → Valid c → openOf (image c) ≡ changed c
+unfolding openOf
+open-image c v = rw (eq-eqb (length (image c)) imageBytes (image-length c v)) (restore-image freshOf c v)
 
 -- ---- a refused call leaves the chain
 
@@ -65,7 +70,7 @@ stays c e n p = go (refuses c e) refl
 module _ (c : Chain) (v : Valid c) where
   frame-on : (a : List ℕ) (key bed : List Float) → frameIn (image c) a key bed ≡ framedIn (image c) a (frameOf c key bed)
   unfolding frameIn
-  frame-on a key bed = ap (λ (r : Changed). openedFrame (image c) a key bed (r .chain) (r .verdict)) (restore-image freshOf c v)
+  frame-on a key bed = ap (λ (r : Changed). openedFrame (image c) a key bed (r .chain) (r .verdict)) (open-image c v)
 
   -- what a frame leaves, by its outcome
   frame-left : (a : List ℕ) (f : Framed) → ((n : ℕ) → replyOf (f .outcome) ≡ refusal n → f .chain ≡ c)
@@ -84,12 +89,15 @@ module _ (c : Chain) (v : Valid c) where
       go verdict.Passed e = (refl, over-image (r .chain) c v)
       go (verdict.Refused n) e = (refl, ap image (sym (k (numberOf n) (ap notedOf e))))
 
+  change-on : (f : Chain → Changed) → changeIn (image c) f ≡ changedIn (image c) (f c)
+  unfolding changeIn
+  change-on f = ap (λ (r : Changed). openedBy (image c) f (r .chain) (r .verdict)) (open-image c v)
+
   left : (e : Event) → (leftBy (image c) e .code ≡ numberIn (events.port c e .seen .reply)) × (leftBy (image c) e .bytes ≡ image (events.port c e .state))
-  unfolding setIn resetIn
   left (frame key bed) = rw (frame-on [] key bed) (frame-left [] (frameOf c key bed) (stays c (frame key bed)))
-  left (settings a) =
-      rw (restore-image freshOf c v) (change-left (setOf c (a .values)) (stays c (settings a)))
-  left (reset n) = rw (restore-image freshOf c v) (change-left (resetOf c n) (stays c (reset n)))
+  left (settings a) = rw (change-on (λ c. setOf c (a .values))) (change-left (setOf c (a .values)) (stays c (settings a)))
+  left (reset n) = rw (change-on (λ c. resetOf c n)) (change-left (resetOf c n) (stays c (reset n)))
+  left (layout l) = rw (change-on (λ c. layoutOf c l)) (change-left (layoutOf c l) (stays c (layout l)))
 
   frame-words : (a : List ℕ) (f : Framed) → framedIn (image c) a f .words ≡ wordsAfter a (replyOf (f .outcome))
   frame-words a f = go (f .outcome)
@@ -106,40 +114,50 @@ module _ (c : Chain) (v : Valid c) where
 
 -- ---- lent bytes that are an image, and lent bytes that are none
 
-code-is : (b : List ℕ) → codeIn b ≡ refusesImage b
-code-is b = go (refusesImage b) refl
+-- where the number is 0, the bytes are as long as an image, and an image
+open-length : (b : List ℕ) → codeIn b ≡ 0 → length b ≡ imageBytes
+unfolding openOf
+open-length b z = go (eqb (length b) imageBytes) refl z
   where
-    go : (n : ℕ) → refusesImage b ≡ n → codeIn b ≡ refusesImage b
+    go : (t : Bool) → eqb (length b) imageBytes ≡ t → codeOf (cond t (restoreOf freshOf b) (unchanged freshOf WrongLength) .verdict) ≡ 0 → length b ≡ imageBytes
+    go true e z = eqb-true (length b) imageBytes e
+    go false e z = absurd (omega arith)
+
+open-code : (b : List ℕ) → length b ≡ imageBytes → codeIn b ≡ refusesImage b
+unfolding openOf
+open-code b l = rw (eq-eqb (length b) imageBytes l) (go (refusesImage b) refl)
+  where
+    go : (n : ℕ) → refusesImage b ≡ n → codeOf (restoreOf freshOf b .verdict) ≡ refusesImage b
     go zero z = ap (λ (r : Changed). codeOf (r .verdict)) (restore-accepted b freshOf z) ∙ sym z
     go (suc n) z =
         let r = restore-unchanged b freshOf (not-suc z) in
         ap (λ (r : Changed). codeOf (r .verdict)) (r .2) ∙ sym (r .1)
 
 image-code : (c : Chain) → Valid c → codeIn (image c) ≡ 0
-image-code c v = code-is (image c) ∙ image-accepted c v
+image-code c v = open-code (image c) (image-length c v) ∙ image-accepted c v
 
 module _ (b : List ℕ) (n : codeIn b ≡ 0 → ⊥) where
   closed-frame : (a : List ℕ) (key bed : List Float) → frameIn b a key bed ≡ record { code = codeIn b; bytes = b; words = a }
   unfolding frameIn
-  closed-frame a key bed = go (restoreOf freshOf b .verdict) n
+  closed-frame a key bed = go (openOf b .verdict) n
     where
-      go : (v : Verdict) → (codeOf v ≡ 0 → ⊥) → openedFrame b a key bed (restoreOf freshOf b .chain) v ≡ record { code = codeOf v; bytes = b; words = a }
+      go : (v : Verdict) → (codeOf v ≡ 0 → ⊥) → openedFrame b a key bed (openOf b .chain) v ≡ record { code = codeOf v; bytes = b; words = a }
+      go verdict.Passed k = absurd (k refl)
+      go (verdict.Refused r) k = refl
+
+  closed-change : (f : Chain → Changed) → changeIn b f ≡ record { code = codeIn b; bytes = b }
+  unfolding changeIn
+  closed-change f = go (openOf b .verdict) n
+    where
+      go : (v : Verdict) → (codeOf v ≡ 0 → ⊥) → openedBy b f (openOf b .chain) v ≡ record { code = codeOf v; bytes = b }
       go verdict.Passed k = absurd (k refl)
       go (verdict.Refused r) k = refl
 
   closed : (e : Event) → leftBy b e ≡ record { code = codeIn b; bytes = b }
-  unfolding setIn resetIn
   closed (frame key bed) = ap (λ (t : Told). record { code = t .code; bytes = t .bytes }) (closed-frame [] key bed)
-  closed (settings a) = go (restoreOf freshOf b .verdict) n
-    where
-      go : (v : Verdict) → (codeOf v ≡ 0 → ⊥) → openedSet b (a .values) (restoreOf freshOf b .chain) v ≡ record { code = codeOf v; bytes = b }
-      go verdict.Passed k = absurd (k refl)
-      go (verdict.Refused r) k = refl
-  closed (reset m) = go (restoreOf freshOf b .verdict) n
-    where
-      go : (v : Verdict) → (codeOf v ≡ 0 → ⊥) → openedReset b m (restoreOf freshOf b .chain) v ≡ record { code = codeOf v; bytes = b }
-      go verdict.Passed k = absurd (k refl)
-      go (verdict.Refused r) k = refl
+  closed (settings a) = closed-change (λ c. setOf c (a .values))
+  closed (reset m) = closed-change (λ c. resetOf c m)
+  closed (layout l) = closed-change (λ c. layoutOf c l)
 
 -- ---- any call on a chain's image
 
@@ -154,21 +172,25 @@ module _ (c : Chain) (v : Valid c) where
       go false = refl
 
   restore-done : (b : List ℕ) → doneBy (image c) (restore b) ≡ doneIn (port c (restore b))
-  restore-done b = go (refusesImage b) refl
+  unfolding restoreIn
+  restore-done b = rw (eq-eqb (length (image c)) imageBytes (image-length c v)) (go (refusesImage b) refl)
     where
-      go : (n : ℕ) → refusesImage b ≡ n → doneBy (image c) (restore b) ≡ doneIn (port c (restore b))
+      go : (n : ℕ) → refusesImage b ≡ n
+          → record { code = changedIn (image c) (restoreOf freshOf b) .code; beside = b; bytes = changedIn (image c) (restoreOf freshOf b) .bytes } ≡ doneIn (port c (restore b))
       go zero z =
-          rw (code-is b, z, restore-accepted b c z)
-          (λ i. record { code = 0; beside = b; bytes = sym (read-accepted b z) i })
+          rw (restore-accepted b freshOf z, restore-accepted b c z)
+          (λ i. record { code = 0; beside = b; bytes = over-image (meaning b) c v i })
       go (suc n) z =
-          let r = restore-unchanged b c (not-suc z) in
-          rw (code-is b, z, r .2)
-          (λ i. record { code = (sym z ∙ r .1) i; beside = b; bytes = ap (λ (t : Bool). cond t b (image c)) (ne-eqb (suc n) 0 (not-suc refl)) i })
+          let r = restore-unchanged b freshOf (not-suc z) in
+          let q = restore-unchanged b c (not-suc z) in
+          rw (r .2, q .2)
+          (λ i. record { code = (sym (r .1) ∙ q .1) i; beside = b; bytes = image c })
 
   done : (d : Call Event) → doneBy (image c) d ≡ doneIn (port c d)
   done (event (frame key bed)) = λ i. record { code = left c v (frame key bed) .0 i; beside = []; bytes = left c v (frame key bed) .1 i }
   done (event (settings a)) = λ i. record { code = left c v (settings a) .0 i; beside = []; bytes = left c v (settings a) .1 i }
   done (event (reset n)) = λ i. record { code = left c v (reset n) .0 i; beside = []; bytes = left c v (reset n) .1 i }
+  done (event (layout l)) = λ i. record { code = left c v (layout l) .0 i; beside = []; bytes = left c v (layout l) .1 i }
   done (save l) = save-done l
   done (restore b) = restore-done b
 
@@ -196,7 +218,7 @@ lent-laws = record {
   fresh = λ b n. λ i. record { code = ap codeOf (passed-right b n) i; bytes = save-right freshOf b n i };
   refused = λ b e n. closed b n e;
   refused-frame = λ b a key bed n. closed-frame b n a key bed;
-  means = λ b z. accepted-image b (sym (code-is b) ∙ z);
+  means = λ b z. let l = open-length b z in (meaning b, meaning-valid b, present b (sym (open-code b l) ∙ z) l);
   bytes = held;
   accepted = λ c v cs. ap codeIn (held c v cs) ∙ image-code (chainFrom c cs) (valid c v cs);
   calls = next-done;

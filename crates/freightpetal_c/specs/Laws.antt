@@ -1,4 +1,5 @@
--- What the calls on a lent image come to: from any lent bytes on, over every list of frames, settings calls, resets, saves and restores.
+-- What the calls on a lent image come to: from any lent bytes on, over every list of frames, settings calls, resets, layout calls, saves
+-- and restores.
 use mathlib.Core.Path.{_≡_}
 use mathlib.Core.Bool.{cond}
 use mathlib.Core.List.{List, []}
@@ -12,22 +13,23 @@ use Rattle.demands.specs.Calls.{Log, empty, _▹_, Call, event, save, restore, 
 use Rattle.demands.specs.Demands.{from}
 use Rattle.chain.specs.declared.Chain.{Chain}
 use Rattle.chain.specs.Chain.{freshOf}
-use Rattle.rules.specs.Rules.{Event, frame, settings, reset, Answered, shown, noted, rules}
+use Rattle.rules.specs.Rules.{Event, frame, settings, reset, layout, Answered, shown, noted, rules}
 use Rattle.chain.specs.Valid.{Valid}
 use Rattle.image.specs.Layout.{imageBytes}
 use Rattle.image.specs.Image.{image}
 use Rattle.image.specs.Port.{images, port}
 use Rattle.words.specs.Words.{answerWords}
 use Rattle.freightpetal_c.specs.Lent as lent
-use Rattle.freightpetal_c.specs.Lent.{Left, freshIn, codeIn, frameIn, setIn, resetIn}
+use Rattle.freightpetal_c.specs.Lent.{Left, freshIn, codeIn, frameIn, setIn, resetIn, layoutIn, restoreIn}
 
 -- ---- a caller's calls on lent bytes
 
--- the number that a frame, a settings call or a reset gets, and the lent bytes after it
+-- the number that an event gets, and the lent bytes after it
 abbrev pub leftBy : List ℕ → Event → Left
 leftBy b (frame key bed) = record { code = frameIn b [] key bed .code; bytes = frameIn b [] key bed .bytes }
 leftBy b (settings a) = setIn b (a .values)
 leftBy b (reset n) = resetIn b n
+leftBy b (layout l) = layoutIn b l
 
 -- what a caller has of any call: its number, the bytes that it lends beside the image as they are after it, and the image's bytes after it
 pub record Done : Type 0 where
@@ -35,12 +37,12 @@ pub record Done : Type 0 where
   pub beside : List ℕ
   pub bytes : List ℕ
 
--- a save copies the lent bytes away, into a buffer of their length; a restore puts bytes in their place where `freightpetal_check` answers 0
+-- a save copies the lent bytes away, into a buffer of their length; a restore is `freightpetal_restore`
 abbrev pub doneBy : List ℕ → Call Event → Done
 doneBy b (event e) = record { code = leftBy b e .code; beside = []; bytes = leftBy b e .bytes }
 doneBy b (save l) =
     record { code = cond (eqb (length l) (length b)) 0 (numberOf WrongLength); beside = cond (eqb (length l) (length b)) b l; bytes = b }
-doneBy b (restore a) = record { code = codeIn a; beside = a; bytes = cond (eqb (codeIn a) 0) a b }
+doneBy b (restore a) = record { code = restoreIn b a .code; beside = a; bytes = restoreIn b a .bytes }
 
 -- the lent bytes after a list of calls
 unfoldable pub lentFrom : List ℕ → Log (Call Event) → List ℕ

@@ -1,8 +1,13 @@
 -- Calls on a lent image: the chain is restored from it, the call runs, and the chain is saved back. Definitions only.
+use mathlib.Core.Bool.{cond}
 use mathlib.Core.List.{List}
 use Prim.Native.Nat.{ℕ}
+use lib.Dec.{eqb}
+use lib.ListN.{length}
 use lib.Ieee.{Float}
+use Rattle.refusal.specs.declared.Refusal.the-variants.{WrongLength}
 use Rattle.refusal.specs.Table.{numberOf}
+use Rattle.layout.specs.declared.Layout.{Layout}
 use Rattle.chain.specs.declared.Chain.{Chain}
 use Rattle.chain.specs.declared.Changed.{Changed}
 use Rattle.chain.specs.declared.Framed.{Framed}
@@ -11,8 +16,9 @@ use Rattle.chain.specs.declared.Outcome.the-variants as outcome
 use Rattle.settings.specs.declared.Settings.{Settings}
 use Rattle.chain.specs.declared.Verdict.{Verdict}
 use Rattle.chain.specs.declared.Verdict.the-variants as verdict
-use Rattle.chain.specs.Chain.{freshOf, frameOf, setOf, resetOf}
-use Rattle.image.specs.Image.{image, saveVerdict, savedIn, restoreOf}
+use Rattle.chain.specs.Chain.{freshOf, frameOf, unchanged, setOf, resetOf, layoutOf}
+use Rattle.image.specs.Layout.{imageBytes}
+use Rattle.image.specs.Image.{saveVerdict, savedIn, restoreOf}
 use Rattle.words.specs.Words.{answerWords}
 
 -- the specification's number; 0: passed
@@ -35,9 +41,12 @@ pub record Answered : Type 0 where
 abbrev pub freshIn : List ℕ → Left
 freshIn b = record { code = codeOf (saveVerdict b); bytes = savedIn freshOf b }
 
--- whether lent bytes are an image
+-- the chain whose image is lent: bytes of another length than a saved image's are refused, as a save into them is
+unfoldable pub openOf : List ℕ → Changed
+openOf b = cond (eqb (length b) imageBytes) (restoreOf freshOf b) (unchanged freshOf WrongLength)
+
 abbrev pub codeIn : List ℕ → ℕ
-codeIn b = codeOf (restoreOf freshOf b .verdict)
+codeIn b = codeOf (openOf b .verdict)
 
 -- ---- a frame
 
@@ -55,9 +64,9 @@ openedFrame b a key bed c verdict.Passed = framedIn b a (frameOf c key bed)
 openedFrame b a key bed c (verdict.Refused r) = record { code = numberOf r; bytes = b; words = a }
 
 unfoldable pub frameIn : List ℕ → List ℕ → List Float → List Float → Answered
-frameIn b a key bed = openedFrame b a key bed (restoreOf freshOf b .chain) (restoreOf freshOf b .verdict)
+frameIn b a key bed = openedFrame b a key bed (openOf b .chain) (openOf b .verdict)
 
--- ---- a settings call and a reset
+-- ---- a settings call, a reset and a layout call: what f makes of the chain
 
 abbrev pub savedAs : List ℕ → Chain → Verdict → Left
 savedAs b c verdict.Passed = record { code = 0; bytes = savedIn c b }
@@ -66,16 +75,23 @@ savedAs b c (verdict.Refused r) = record { code = numberOf r; bytes = b }
 abbrev pub changedIn : List ℕ → Changed → Left
 changedIn b r = savedAs b (r .chain) (r .verdict)
 
-abbrev pub openedSet : List ℕ → Settings → Chain → Verdict → Left
-openedSet b s c verdict.Passed = changedIn b (setOf c s)
-openedSet b s c (verdict.Refused r) = record { code = numberOf r; bytes = b }
+abbrev pub openedBy : List ℕ → (Chain → Changed) → Chain → Verdict → Left
+openedBy b f c verdict.Passed = changedIn b (f c)
+openedBy b f c (verdict.Refused r) = record { code = numberOf r; bytes = b }
 
-unfoldable pub setIn : List ℕ → Settings → Left
-setIn b s = openedSet b s (restoreOf freshOf b .chain) (restoreOf freshOf b .verdict)
+unfoldable pub changeIn : List ℕ → (Chain → Changed) → Left
+changeIn b f = openedBy b f (openOf b .chain) (openOf b .verdict)
 
-abbrev pub openedReset : List ℕ → ℕ → Chain → Verdict → Left
-openedReset b n c verdict.Passed = changedIn b (resetOf c n)
-openedReset b n c (verdict.Refused r) = record { code = numberOf r; bytes = b }
+abbrev pub setIn : List ℕ → Settings → Left
+setIn b s = changeIn b (λ c. setOf c s)
 
-unfoldable pub resetIn : List ℕ → ℕ → Left
-resetIn b n = openedReset b n (restoreOf freshOf b .chain) (restoreOf freshOf b .verdict)
+abbrev pub resetIn : List ℕ → ℕ → Left
+resetIn b n = changeIn b (λ c. resetOf c n)
+
+abbrev pub layoutIn : List ℕ → Layout → Left
+layoutIn b l = changeIn b (λ c. layoutOf c l)
+
+-- ---- a restore: bytes a of either edition, into the lent bytes b
+
+unfoldable pub restoreIn : List ℕ → List ℕ → Left
+restoreIn b a = cond (eqb (length b) imageBytes) (changedIn b (restoreOf freshOf a)) (record { code = numberOf WrongLength; bytes = b })

@@ -1,7 +1,7 @@
--- The codecs of a chain: how many words each takes, and its laws, which follow from those of its parts.
+-- The codecs of a chain and of edition 1: how many words each takes, and its laws, which follow from those of its parts.
 use mathlib.Core.Path.{_≡_, refl}
 use mathlib.Core.List.{[], _∷_}
-use Prim.Native.Nat.{_+_, _^_}
+use Prim.Native.Nat.{ℕ, _+_, _^_, _<_}
 use lib.ListN.{replicate}
 use lib.Dec.{T, lit<}
 use lib.Ieee.{toBits, ofBits, eq, neg, lt, fits}
@@ -12,8 +12,11 @@ use Rattle.codec.proofs.Forms.{f64-laws, flag-laws, one-laws, fixed-laws, pair-
 use Rattle.settings.specs.Settings.{outsideOf, outsideStrand, outsideDuck, outsideSettings, freshSettings}
 use Rattle.strand_image.specs.Strand.{strand, front, state, filters, powers, decimated, floor, smoothed, window, minima, history, decision, counts, power}
 use Rattle.strand_image.proofs.Codecs.{strand-laws}
+use Rattle.surround_image.proofs.Codecs.{surround-laws, surround-size}
 use Rattle.image.specs.Layout.{edition, payloadWords, bodyWords, unusedWords}
 use Rattle.image.specs.Chain.{strandSettings, fromDuck, toDuck, duck, signedOf, signedStrand, signedDuck, signedSettings, settingsRule, numbers, settings, loops, body, chain}
+use Rattle.image.specs.Edition1.{base}
+use Rattle.image.specs.Edition1 as first
 
 -- ---- how many words
 
@@ -37,9 +40,13 @@ pub size-body : body .size ≡ bodyWords
 unfolding body
 size-body = λ i. size-settings i + (size-strand i + (size-strand i + size-loops i))
 
+pub size-base : base .size ≡ first.payloadWords
+unfolding base
+size-base = λ i. 1 + (size-body i + first.unusedWords)
+
 pub size-chain : chain .size ≡ payloadWords
 unfolding chain
-size-chain = λ i. 1 + (size-body i + unusedWords)
+size-chain = λ i. 1 + (size-body i + (surround-size i + unusedWords))
 
 -- ---- settings
 
@@ -81,15 +88,19 @@ pub body-laws : CodecLaws body
 unfolding body
 body-laws = as-a-laws _ _ (λ a. refl) (λ b. refl) (pair-laws settings-laws (pair-laws strand-laws (pair-laws strand-laws loops-laws)))
 
--- ---- the chain
+-- ---- both editions
 
-pub edition-laws : CodecLaws (fixed (edition ∷ []))
-edition-laws = fixed-laws (edition ∷ []) (below-cons (2 ^ 64) edition [] (lit< tt) (below-nil (2 ^ 64) (lit< tt)))
+pub edition-laws : (n : ℕ) → n < 2 ^ 64 → CodecLaws (fixed (n ∷ []))
+edition-laws n h = fixed-laws (n ∷ []) (below-cons (2 ^ 64) n [] h (below-nil (2 ^ 64) (lit< tt)))
 
-unused-laws : CodecLaws (fixed (replicate unusedWords 0))
-unused-laws = fixed-laws (replicate unusedWords 0) (below-replicate (2 ^ 64) unusedWords 0 (lit< tt))
+unused-laws : (n : ℕ) → CodecLaws (fixed (replicate n 0))
+unused-laws n = fixed-laws (replicate n 0) (below-replicate (2 ^ 64) n 0 (lit< tt))
+
+pub base-laws : CodecLaws base
+unfolding base
+base-laws = as-a-laws _ _ (λ a. refl) (λ b. refl) (pair-laws (edition-laws first.edition (lit< tt)) (pair-laws body-laws (unused-laws first.unusedWords)))
 
 pub chain-laws : CodecLaws chain
 unfolding chain
 chain-laws = as-a-laws _ _ (λ a. refl) (λ b. refl)
-    (pair-laws edition-laws (pair-laws body-laws unused-laws))
+    (pair-laws (edition-laws edition (lit< tt)) (pair-laws body-laws (pair-laws surround-laws (unused-laws unusedWords))))

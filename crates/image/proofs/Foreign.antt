@@ -1,71 +1,71 @@
--- Refusal 8, said twice: no valid chain has these words, and a word breaks one of the specification's rules.
-use mathlib.Core.Path.{_≡_, sym, ap, _∙_}
-use mathlib.Core.Bool.{Bool, true, false}
+-- Refusal 8 of bytes of either edition whose checks hold, said twice: no valid chain has these words, and a word breaks one of the specification's
+-- rules.
+use mathlib.Core.Path.{_≡_, sym, _∙_}
 use mathlib.Core.List.{List}
-use Prim.Native.Nat.{ℕ, _*_}
+use Prim.Native.Nat.{ℕ}
 use native.Mathlib.Omega.{arith}
 use borrow.Author.Tests.{eq-eqb}
-use lib.ListN.{length}
+use lib.ListN.{length, getD}
 use Rattle.blocks.specs.Lists.{Bytes}
-use Rattle.blocks.specs.Words.{blocksIn, checkedWords, firstBad}
-use Rattle.blocks.specs.Image.{imageOf, payloadOf}
-use Rattle.blocks.proofs.Images.{image-payload, image-of-payload, payload-length, payload-words}
+use Rattle.blocks.specs.Words.{blocksIn, firstBad}
+use Rattle.blocks.specs.Image.{payloadOf}
+use Rattle.blocks.proofs.Images.{payload-words}
 use Rattle.refusal.specs.declared.Refusal.the-variants.{ForeignImage}
 use Rattle.refusal.specs.Table.{numberOf}
 use Rattle.chain.specs.declared.Chain.{Chain}
+use Rattle.chain.specs.Base.{Base, widened}
 use Rattle.chain.specs.Valid.{Valid}
 use Rattle.codec.proofs.Again.{Iff}
-use Rattle.image.specs.Layout.{blockCount, imageBytes, payloadWords}
-use Rattle.image.specs.Image.{wordsOf, image, ours, refusesImage}
-use Rattle.image.specs.Words.{PayloadWords}
-use Rattle.image.proofs.Laws.{words-length, words-small, image-accepted, accepted-image, ruling}
-use Rattle.image.proofs.Payload as payload
+use Rattle.image.specs.Layout as second
+use Rattle.image.specs.Edition.{refusesIn}
+use Rattle.image.specs.Edition1.{firstEdition}
+use Rattle.image.specs.Edition1 as first
+use Rattle.image.specs.Chain.{secondEdition}
+use Rattle.image.specs.Image.{wordsOf, refusesImage}
+use Rattle.image.specs.Words.{PayloadWordsOne, PayloadWords}
+use Rattle.image.proofs.Valid.{base-valid, valid-base, chain-valid, valid-chain}
+use Rattle.image.proofs.Edition as edition
+use Rattle.image.proofs.Laws.{first-laws, second-laws, not-old, number-old, number-new}
+use Rattle.image.proofs.Payload.{base-words, chain-words}
 
--- bytes of the right length whose checks hold
-module _ (b : List ℕ) (s : Bytes b) (e : length b ≡ imageBytes) (f : firstBad b ≡ blockCount) where
-  -- a valid chain has these words
-  abbrev pub Known : Type 0
-  Known = (c : Chain) × Valid c × (wordsOf c ≡ payloadOf b)
+-- an edition's number by other words: m is that number, and P means Q
+as-said : {P Q : Type 0} {m n k : ℕ} → m ≡ n → Iff (n ≡ k) (P → ⊥) → Iff P Q → Iff (m ≡ k) (Q → ⊥)
+as-said e u w = ((λ h q. u .0 (sym e ∙ h) (w .1 q)), λ f. e ∙ u .1 (λ p. f (w .0 p)))
 
-  all-words : length (payloadOf b) ≡ payloadWords
-  all-words = let k : blocksIn b ≡ blockCount = omega arith in payload-length b ∙ ap (λ (n : ℕ). checkedWords * n) k
+module _ (b : List ℕ) (s : Bytes b) where
+  -- ---- edition 1
 
-  accepted-known : refusesImage b ≡ 0 → Known
-  accepted-known a =
-      let w = accepted-image b a in
-      let c = w .0 in
-      let q : payloadOf (image c) ≡ wordsOf c = unfold image in image-payload (wordsOf c) (words-small c (w .1)) blockCount (words-length c (w .1)) in
-      (c, w .1, sym q ∙ ap payloadOf (w .2))
+  module _ (l : length b ≡ first.imageBytes) (f : firstBad b ≡ first.blockCount) where
+    number-one : refusesImage b ≡ refusesIn firstEdition b
+    number-one = number-old b (eq-eqb (length b) first.imageBytes l)
 
-  known-accepted : Known → refusesImage b ≡ 0
-  known-accepted w =
-      let c = w .0 in
-      let i : image c ≡ imageOf blockCount (payloadOf b) = unfold image in ap (imageOf blockCount) (w .2) in
-      let q : image c ≡ b = i ∙ image-of-payload b blockCount e s f in
-      ap refusesImage (sym q) ∙ image-accepted c (w .1)
+    pub foreign-unknown-one : Iff (refusesImage b ≡ numberOf ForeignImage) ((c : Base) × Valid (widened c) × (first.base .enc c ≡ payloadOf b) → ⊥)
+    foreign-unknown-one =
+        as-said number-one (edition.foreign-unknown first-laws b s l f)
+        ((λ k. (k .0, base-valid (k .0) (k .1), k .2)), λ k. (k .0, valid-base (k .0) (k .1), k .2))
 
-  -- they are accepted exactly where each word keeps the specification's rules
-  pub accepted-words : Iff (refusesImage b ≡ 0) (PayloadWords (payloadOf b))
-  accepted-words =
-      let a = payload.payload-words (payloadOf b) (payload-words b s) all-words in
-      ((λ h. a .1 (accepted-known h)), λ w. known-accepted (a .0 w))
+    pub foreign-words-one : Iff (refusesImage b ≡ numberOf ForeignImage) (PayloadWordsOne (payloadOf b) → ⊥)
+    foreign-words-one = as-said number-one (edition.foreign-reads first-laws b s l f) (base-words (payloadOf b) (payload-words b s))
 
-  by-words : refusesImage b ≡ ruling true true (ours b)
-  unfolding refusesImage
-  by-words = rw (eq-eqb (length b) imageBytes e, eq-eqb (firstBad b) blockCount f)
+  -- ---- edition 2
 
-  -- they are accepted or foreign
-  foreign-not : Iff (refusesImage b ≡ numberOf ForeignImage) (refusesImage b ≡ 0 → ⊥)
-  foreign-not = ((λ h g. omega arith), λ h. go h (ours b) by-words)
-    where
-      go : (refusesImage b ≡ 0 → ⊥) → (t : Bool) → refusesImage b ≡ ruling true true t → refusesImage b ≡ numberOf ForeignImage
-      go h true q = absurd (h q)
-      go h false q = q
+  module _ (l : length b ≡ second.imageBytes) (f : firstBad b ≡ second.blockCount) where
+    number-two : refusesImage b ≡ refusesIn secondEdition b
+    number-two = number-new b (not-old b l)
 
-  -- 8: no valid chain has these words
-  pub foreign-unknown : Iff (refusesImage b ≡ numberOf ForeignImage) (Known → ⊥)
-  foreign-unknown = ((λ h k. foreign-not .0 h (known-accepted k)), λ n. foreign-not .1 (λ a. n (accepted-known a)))
+    pub foreign-unknown : Iff (refusesImage b ≡ numberOf ForeignImage) ((c : Chain) × Valid c × (wordsOf c ≡ payloadOf b) → ⊥)
+    unfolding wordsOf
+    foreign-unknown =
+        as-said number-two (edition.foreign-unknown second-laws b s l f)
+        ((λ k. (k .0, chain-valid (k .0) (k .1), k .2)), λ k. (k .0, valid-chain (k .0) (k .1), k .2))
 
-  -- 8: a word breaks a rule
-  pub foreign-words : Iff (refusesImage b ≡ numberOf ForeignImage) (PayloadWords (payloadOf b) → ⊥)
-  foreign-words = ((λ h w. foreign-not .0 h (accepted-words .1 w)), λ n. foreign-not .1 (λ a. n (accepted-words .0 a)))
+    pub foreign-words : Iff (refusesImage b ≡ numberOf ForeignImage) (PayloadWords (payloadOf b) → ⊥)
+    foreign-words = as-said number-two (edition.foreign-reads second-laws b s l f) (chain-words (payloadOf b) (payload-words b s))
+
+  -- ---- an edition that does not fit the length
+
+  pub unfit-one : length b ≡ first.imageBytes → firstBad b ≡ blocksIn b → (getD (payloadOf b) 0 0 ≡ first.edition → ⊥) → refusesImage b ≡ numberOf ForeignImage
+  unfit-one l f h = let k : blocksIn b ≡ first.blockCount = omega arith in foreign-words-one l (f ∙ k) .1 (λ w. h (w .edition))
+
+  pub unfit-two : length b ≡ second.imageBytes → firstBad b ≡ blocksIn b → (getD (payloadOf b) 0 0 ≡ second.edition → ⊥) → refusesImage b ≡ numberOf ForeignImage
+  unfit-two l f h = let k : blocksIn b ≡ second.blockCount = omega arith in foreign-words l (f ∙ k) .1 (λ w. h (w .edition))

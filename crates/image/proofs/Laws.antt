@@ -1,153 +1,208 @@
--- The laws of images: what is saved comes back, what is accepted is a valid chain's image, and a refusal changes nothing.
-use mathlib.Core.Path.{_≡_, refl, sym, ap, _∙_}
-use mathlib.Core.Bool.{Bool, true, false, not, cond}
-use mathlib.Core.List.{List, [], _∷_}
-use Prim.Native.Nat.{ℕ, _/_}
+-- The laws of images of both editions: what is saved comes back, accepted bytes restore as what they mean, and a refusal changes nothing.
+use mathlib.Core.Path.{_≡_, refl, sym, ap, _∙_, subst}
+use mathlib.Core.Bool.{Bool, true, false, cond}
+use mathlib.Core.Logic.{_⊎_, inl, inr}
+use mathlib.Core.List.{List}
+use Prim.Native.Nat.{ℕ}
 use native.Mathlib.Omega.{arith}
 use borrow.Author.Tests.{eq-eqb, ne-eqb}
 use lib.Dec.{eqb}
 use lib.ListN.{length}
-use Rattle.blocks.specs.Lists.{Words}
-use Rattle.blocks.specs.Words.{blockWords, firstBad}
-use Rattle.blocks.specs.Image.{payloadOf, OneWord}
-use Rattle.blocks.proofs.Lists.{same-refl, same-eq}
-use Rattle.blocks.proofs.Images as images
-use Rattle.blocks.proofs.Single.{inside, one-word-caught}
-use Rattle.codec.proofs.Accepted.{dec-enc, enc-inj}
+use Rattle.blocks.specs.Words.{blocksIn, firstBad}
+use Rattle.blocks.specs.Image.{OneWord}
+use Rattle.codec.proofs.Accepted.{enc-inj}
 use Rattle.refusal.specs.declared.Refusal.{Refusal}
-use Rattle.refusal.specs.declared.Refusal.the-variants.{WrongLength, BadCheck, ForeignImage}
-use Rattle.refusal.specs.Table.{numberOf, InTable, _means_, firstNumber}
+use Rattle.refusal.specs.declared.Refusal.the-variants.{WrongLength, BadCheck}
+use Rattle.refusal.specs.Table.{numberOf, InTable}
 use Rattle.demands.specs.Calls.{refusal, passed, done, Step, gets}
 use Rattle.chain.specs.declared.Chain.{Chain}
 use Rattle.chain.specs.declared.Changed.{Changed}
 use Rattle.chain.specs.Chain.{changed, unchanged}
+use Rattle.chain.specs.Base.{Base, widened}
 use Rattle.chain.specs.Valid.{Valid}
-use Rattle.image.specs.Layout.{blockCount, imageBytes, payloadWords}
-use Rattle.image.specs.Chain.{chain}
-use Rattle.image.specs.Image.{wordsOf, image, readAs, ours, rightLength, rightChecks, refusesImage, saveVerdict, savedIn, restoreOf}
+use Rattle.image.specs.Layout.{blockCount, imageBytes}
+use Rattle.image.specs.Edition.{imageIn, readIn, refusesIn}
+use Rattle.image.specs.Edition1.{firstEdition}
+use Rattle.image.specs.Edition1 as first
+use Rattle.image.specs.Chain.{secondEdition}
+use Rattle.image.specs.Image.{wordsOf, image, oldLength, meaning, refusesImage, saveVerdict, savedIn, restoredIn, restoreOf}
 use Rattle.image.specs.Port.{replyOf, onSave, onRestore, refusesSave}
-use Rattle.image.proofs.Codecs.{size-chain, chain-laws}
-use Rattle.image.proofs.Valid.{chain-valid, valid-chain}
+use Rattle.image.proofs.Codecs.{size-base, size-chain, base-laws, chain-laws}
+use Rattle.image.proofs.Valid.{base-valid, valid-base, chain-valid, valid-chain}
+use Rattle.image.proofs.Edition.{EditionLaws}
+use Rattle.image.proofs.Edition as edition
 
--- ---- the words of a valid chain
+pub first-laws : EditionLaws firstEdition
+first-laws = record { words = base-laws; size = size-base }
 
-module _ (c : Chain) (v : Valid c) where
-  pub words-length : length (wordsOf c) ≡ payloadWords
-  unfolding wordsOf
-  words-length = chain-laws .size-is c (valid-chain c v) ∙ size-chain
-
-  pub words-small : Words (wordsOf c)
-  unfolding wordsOf
-  words-small = chain-laws .small c (valid-chain c v)
-
-  pub image-length : length (image c) ≡ imageBytes
-  unfolding image
-  image-length = images.image-length (wordsOf c) blockCount
-
-  pub image-checks : firstBad (image c) ≡ blockCount
-  unfolding image
-  image-checks = images.image-first (wordsOf c) words-small blockCount
-
-  -- it is read from its image
-  pub read-image : readAs (image c) ≡ c
-  unfolding readAs image
-  read-image =
-      ap (λ (l : List ℕ). chain .dec l 0) (images.image-payload (wordsOf c) words-small blockCount words-length)
-      ∙ (unfold wordsOf in dec-enc chain-laws c (valid-chain c v))
-
-  image-ours : ours (image c) ≡ true
-  unfolding ours
-  image-ours = rw read-image (same-refl (image c))
-
-  -- its image is accepted
-  pub image-accepted : refusesImage (image c) ≡ 0
-  unfolding refusesImage
-  image-accepted = rw (eq-eqb (length (image c)) imageBytes image-length, eq-eqb (firstBad (image c)) blockCount image-checks, image-ours)
-
--- two valid chains have one image exactly where they are equal
-pub same-image : (s t : Chain) → Valid s → Valid t → (image s ≡ image t → s ≡ t) × (s ≡ t → image s ≡ image t)
-same-image s t v u = ((λ e. sym (read-image s v) ∙ ap readAs e ∙ read-image t u), λ e. ap image e)
+pub second-laws : EditionLaws secondEdition
+second-laws = record { words = chain-laws; size = size-chain }
 
 -- the words of a valid chain tell it from any other
 pub bits-inj : (s t : Chain) → Valid s → Valid t → wordsOf s ≡ wordsOf t → s ≡ t
 unfolding wordsOf
 bits-inj s t v u e = enc-inj chain-laws s t (valid-chain s v) (valid-chain t u) e
 
--- ---- some bytes
+-- ---- some bytes, by their length
 
--- the specification's number by the three tests: length, checks, words
-abbrev pub ruling : Bool → Bool → Bool → ℕ
-ruling x y z = firstNumber (not x means WrongLength ∷ not y means BadCheck ∷ not z means ForeignImage ∷ [])
-
-abbrev after : Chain → Chain → Bool → Bool → Bool → Changed
-after old new x y z = cond x (cond y (cond z (changed new) (unchanged old ForeignImage)) (unchanged old BadCheck)) (unchanged old WrongLength)
+-- not as long as an image of edition 1
+pub not-old : (b : List ℕ) → length b ≡ imageBytes → oldLength b ≡ false
+not-old b l = ne-eqb (length b) first.imageBytes (λ h. omega arith)
 
 module _ (b : List ℕ) where
-  -- whatever the bytes, a valid chain is read
-  pub read-valid : Valid (readAs b)
-  read-valid = chain-valid (readAs b) (unfold readAs in chain-laws .sound (payloadOf b) 0)
+  module _ (past : oldLength b ≡ true) where
+    pub number-old : refusesImage b ≡ refusesIn firstEdition b
+    unfolding refusesImage
+    number-old = rw past
 
-  accepted-ours : refusesImage b ≡ 0 → ours b ≡ true
-  unfolding refusesImage
-  accepted-ours = go (rightLength b) (rightChecks b) (ours b) refl
+    pub meaning-old : meaning b ≡ widened (readIn firstEdition b)
+    unfolding meaning
+    meaning-old = rw past
+
+  module _ (new : oldLength b ≡ false) where
+    pub number-new : refusesImage b ≡ refusesIn secondEdition b
+    unfolding refusesImage
+    number-new = rw new
+
+    pub meaning-new : meaning b ≡ readIn secondEdition b
+    unfolding meaning
+    meaning-new = rw new
+
+  -- whatever the bytes, they are read as a valid chain
+  pub meaning-valid : Valid (meaning b)
+  meaning-valid = go (oldLength b) refl
     where
-      go : (x y z : Bool) → ours b ≡ z → ruling x y z ≡ 0 → ours b ≡ true
-      go true true true q e = q
-      go true true false q e = absurd (omega arith)
-      go true false z q e = absurd (omega arith)
-      go false y z q e = absurd (omega arith)
+      go : (t : Bool) → oldLength b ≡ t → Valid (meaning b)
+      go true e = subst Valid (sym (meaning-old e)) (base-valid (readIn firstEdition b) (edition.read-ok first-laws b))
+      go false e = subst Valid (sym (meaning-new e)) (chain-valid (readIn secondEdition b) (edition.read-ok second-laws b))
 
-  -- accepted bytes are the image of the chain that is read
-  pub read-accepted : refusesImage b ≡ 0 → image (readAs b) ≡ b
-  read-accepted e = same-eq (image (readAs b)) b (unfold ours in accepted-ours e)
+  -- accepted bytes as long as an image that is saved are the image of what they mean
+  pub present : refusesImage b ≡ 0 → length b ≡ imageBytes → image (meaning b) ≡ b
+  present h l =
+      let n = not-old b l in
+      ap image (meaning-new n) ∙ edition.accepted-image second-laws b (sym (number-new n) ∙ h)
 
-  -- so their length is an image's, and their checks hold
-  pub accepted-length : refusesImage b ≡ 0 → length b ≡ imageBytes
-  accepted-length e = sym (ap length (read-accepted e)) ∙ image-length (readAs b) read-valid
+  pub accepted-image : refusesImage b ≡ 0 → length b ≡ imageBytes → (s : Chain) × Valid s × (image s ≡ b)
+  accepted-image h l = (meaning b, meaning-valid, present h l)
 
-  pub accepted-checks : refusesImage b ≡ 0 → firstBad b ≡ blockCount
-  accepted-checks e = sym (ap firstBad (read-accepted e)) ∙ image-checks (readAs b) read-valid
-
-  pub accepted-image : refusesImage b ≡ 0 → (s : Chain) × Valid s × (image s ≡ b)
-  accepted-image e = (readAs b, read-valid, read-accepted e)
+  -- those of edition 1 are the edition 1 image of a chain without channels, and mean it with one at 0, 0
+  pub accepted-old : length b ≡ first.imageBytes → refusesImage b ≡ 0
+      → (s : Base) × Valid (widened s) × (imageIn firstEdition s ≡ b) × (meaning b ≡ widened s)
+  accepted-old l h =
+      let p = eq-eqb (length b) first.imageBytes l in (
+        readIn firstEdition b,
+        base-valid (readIn firstEdition b) (edition.read-ok first-laws b),
+        edition.accepted-image first-laws b (sym (number-old p) ∙ h),
+        meaning-old p,
+      )
 
   module _ (old : Chain) where
-    pub restore-accepted : refusesImage b ≡ 0 → restoreOf old b ≡ changed (readAs b)
+    -- a restore goes by the edition of that length
+    abbrev by : Bool → Changed
+    by t = cond t (restoredIn firstEdition b old (meaning b)) (restoredIn secondEdition b old (meaning b))
+
+    pub restore-old : oldLength b ≡ true → restoreOf old b ≡ restoredIn firstEdition b old (meaning b)
     unfolding restoreOf
-    restore-accepted e =
-        rw (eq-eqb (length b) imageBytes (accepted-length e), eq-eqb (firstBad b) blockCount (accepted-checks e), accepted-ours e)
+    restore-old e = ap {B = Changed} by e
+
+    pub restore-new : oldLength b ≡ false → restoreOf old b ≡ restoredIn secondEdition b old (meaning b)
+    unfolding restoreOf
+    restore-new e = ap {B = Changed} by e
+
+    pub restore-accepted : refusesImage b ≡ 0 → restoreOf old b ≡ changed (meaning b)
+    restore-accepted h = go (oldLength b) refl
+      where
+        go : (t : Bool) → oldLength b ≡ t → restoreOf old b ≡ changed (meaning b)
+        go true e = restore-old e ∙ edition.restored-accepted first-laws b old (meaning b) (sym (number-old e) ∙ h)
+        go false e = restore-new e ∙ edition.restored-accepted second-laws b old (meaning b) (sym (number-new e) ∙ h)
 
     -- a refusal changes nothing
     pub restore-unchanged : (refusesImage b ≡ 0 → ⊥) → (r : Refusal) × (refusesImage b ≡ numberOf r) × (restoreOf old b ≡ unchanged old r)
-    unfolding refusesImage restoreOf
-    restore-unchanged = go (rightLength b) (rightChecks b) (ours b)
+    restore-unchanged h = go (oldLength b) refl
       where
-        go : (x y z : Bool) → (ruling x y z ≡ 0 → ⊥) → (r : Refusal) × (ruling x y z ≡ numberOf r) × (after old (readAs b) x y z ≡ unchanged old r)
-        go true true true h = absurd (h refl)
-        go true true false h = (ForeignImage, refl, refl)
-        go true false z h = (BadCheck, refl, refl)
-        go false y z h = (WrongLength, refl, refl)
+        go : (t : Bool) → oldLength b ≡ t → (r : Refusal) × (refusesImage b ≡ numberOf r) × (restoreOf old b ≡ unchanged old r)
+        go true e =
+            let u = edition.restored-refused first-laws b old (meaning b) (λ k. h (number-old e ∙ k)) in
+            (u .0, number-old e ∙ u .1, restore-old e ∙ u .2)
+        go false e =
+            let u = edition.restored-refused second-laws b old (meaning b) (λ k. h (number-new e ∙ k)) in
+            (u .0, number-new e ∙ u .1, restore-new e ∙ u .2)
 
   pub image-number : (refusesImage b ≡ 0 → ⊥) → InTable (refusesImage b)
-  image-number h = let u = restore-unchanged (readAs b) h in (u .0, u .1)
+  image-number h = let u = restore-unchanged (meaning b) h in (u .0, u .1)
+
+  -- ---- 6 and 7
+
+  pub wrong-length : (length b ≡ first.imageBytes → ⊥) → (length b ≡ imageBytes → ⊥) → refusesImage b ≡ numberOf WrongLength
+  wrong-length g h = number-new (ne-eqb (length b) first.imageBytes g) ∙ edition.wrong-length second-laws b h
+
+  pub bad-check : (length b ≡ first.imageBytes) ⊎ (length b ≡ imageBytes) → (firstBad b ≡ blocksIn b → ⊥) → refusesImage b ≡ numberOf BadCheck
+  bad-check (inl l) h =
+      let k : blocksIn b ≡ first.blockCount = omega arith in
+      number-old (eq-eqb (length b) first.imageBytes l) ∙ edition.bad-check first-laws b l (λ p. h (p ∙ sym k))
+  bad-check (inr l) h =
+      let k : blocksIn b ≡ blockCount = omega arith in
+      number-new (not-old b l) ∙ edition.bad-check second-laws b l (λ p. h (p ∙ sym k))
+
+-- ---- a valid chain
+
+module _ (c : Chain) (v : Valid c) where
+  pub image-length : length (image c) ≡ imageBytes
+  image-length = edition.image-length second-laws c (valid-chain c v)
+
+  image-new : oldLength (image c) ≡ false
+  image-new = not-old (image c) image-length
+
+  -- its image is accepted, and means it
+  pub image-accepted : refusesImage (image c) ≡ 0
+  image-accepted = number-new (image c) image-new ∙ edition.image-accepted second-laws c (valid-chain c v)
+
+  pub meaning-image : meaning (image c) ≡ c
+  meaning-image = meaning-new (image c) image-new ∙ edition.read-image second-laws c (valid-chain c v)
+
+-- two valid chains have one image exactly where they are equal
+pub same-image : (s t : Chain) → Valid s → Valid t → (image s ≡ image t → s ≡ t) × (s ≡ t → image s ≡ image t)
+same-image s t v u = ((λ e. sym (meaning-image s v) ∙ ap meaning e ∙ meaning-image t u), λ e. ap image e)
 
 -- a saved chain comes back, whatever chain was there
 pub restore-image : (old c : Chain) → Valid c → restoreOf old (image c) ≡ changed c
-restore-image old c v = restore-accepted (image c) old (image-accepted c v) ∙ ap {B = Changed} changed (read-image c v)
+restore-image old c v = restore-accepted (image c) old (image-accepted c v) ∙ ap {B = Changed} changed (meaning-image c v)
 
--- ---- a change within a single word of bytes whose checks hold is always caught, with 7
+-- what edition 1 wrote of a chain is accepted, and means it with one channel at 0, 0
+pub image-old : (s : Base) → Valid (widened s) → (refusesImage (imageIn firstEdition s) ≡ 0) × (meaning (imageIn firstEdition s) ≡ widened s)
+image-old s v =
+    let b = imageIn firstEdition s in
+    let p = eq-eqb (length b) first.imageBytes (edition.image-length first-laws s (valid-base s v)) in (
+      number-old b p ∙ edition.image-accepted first-laws s (valid-base s v),
+      meaning-old b p ∙ ap {B = Chain} widened (edition.read-image first-laws s (valid-base s v)),
+    )
+
+-- ---- a change within a single word of bytes of either edition whose checks hold is always caught, with 7
 
 module _ (k : ℕ) (b b′ : List ℕ) (one : OneWord k b b′) where
-  pub one-word-refused : length b ≡ imageBytes → firstBad b ≡ blockCount → refusesImage b′ ≡ numberOf BadCheck
-  unfolding refusesImage
-  one-word-refused l e =
-      let f : firstBad b′ ≡ k / blockWords = one-word-caught k b b′ one blockCount l e in
-      let n : firstBad b′ ≡ blockCount → ⊥ = λ q. omega (arith, inside k b b′ one blockCount l) in
-      rw (eq-eqb (length b′) imageBytes (one .size ∙ l), ne-eqb (firstBad b′) blockCount n)
+  pub one-word-refused : (length b ≡ first.imageBytes) ⊎ (length b ≡ imageBytes) → firstBad b ≡ blocksIn b → refusesImage b′ ≡ numberOf BadCheck
+  one-word-refused (inl l) f =
+      let n : blocksIn b ≡ first.blockCount = omega arith in
+      number-old b′ (eq-eqb (length b′) first.imageBytes (one .size ∙ l)) ∙ edition.one-word-refused first-laws k b b′ one l (f ∙ n)
+  one-word-refused (inr l) f =
+      let n : blocksIn b ≡ blockCount = omega arith in
+      number-new b′ (not-old b′ (one .size ∙ l)) ∙ edition.one-word-refused second-laws k b b′ one l (f ∙ n)
 
   -- accepted bytes are such bytes
   pub accepted-word-refused : refusesImage b ≡ 0 → refusesImage b′ ≡ numberOf BadCheck
-  accepted-word-refused e = one-word-refused (accepted-length b e) (accepted-checks b e)
+  accepted-word-refused h = go (oldLength b) refl
+    where
+      go : (t : Bool) → oldLength b ≡ t → refusesImage b′ ≡ numberOf BadCheck
+      go true e =
+          let a = sym (number-old b e) ∙ h in
+          let l = edition.accepted-length first-laws b a in
+          let n : blocksIn b ≡ first.blockCount = omega arith in
+          one-word-refused (inl l) (edition.accepted-checks first-laws b a ∙ sym n)
+      go false e =
+          let a = sym (number-new b e) ∙ h in
+          let l = edition.accepted-length second-laws b a in
+          let n : blocksIn b ≡ blockCount = omega arith in
+          one-word-refused (inr l) (edition.accepted-checks second-laws b a ∙ sym n)
 
 -- ---- the two calls as steps of a port
 
@@ -168,7 +223,7 @@ module _ {Answer : Type 0} (s : Chain) where
       go true q h = absurd (h refl)
       go false q h = rw q
 
-  pub restored : (b : List ℕ) → refusesImage b ≡ 0 → _≡_ {A = Step Chain Answer} (onRestore s b) (gets (passed done) b (readAs b))
+  pub restored : (b : List ℕ) → refusesImage b ≡ 0 → _≡_ {A = Step Chain Answer} (onRestore s b) (gets (passed done) b (meaning b))
   restored b e = ap (λ (r : Changed). gets (replyOf (r .verdict)) b (r .chain)) (restore-accepted b s e)
 
   pub restore-refused : (b : List ℕ) → (refusesImage b ≡ 0 → ⊥) → _≡_ {A = Step Chain Answer} (onRestore s b) (gets (refusal (refusesImage b)) b s)

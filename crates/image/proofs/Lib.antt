@@ -1,8 +1,9 @@
 pub mod Codecs
 pub mod Rules
-pub mod Calls
 pub mod Valid
+pub mod Edition
 pub mod Laws
+pub mod Calls
 pub mod Payload
 pub mod Foreign
 pub mod Plug

@@ -1,4 +1,4 @@
--- A payload is a valid chain's exactly where the specification's rules hold of its words.
+-- A payload of either edition is read and written again as it is exactly where the specification's rules hold of its words.
 use mathlib.Core.Path.{_≡_, refl, sym, ap, _∙_, subst}
 use mathlib.Core.Bool.{Bool, true, false, not, cond, _&&_, _||_, Bool·beq, true≢false, false≢true}
 use mathlib.Core.List.{List}
@@ -6,13 +6,14 @@ use Prim.Native.Nat.{ℕ, zero, suc, _+_, _-_, _*_, _%_, _^_, _≤_, _<_}
 use native.Mathlib.Nat.{mul-pos}
 use native.Mathlib.Omega.{arith}
 use borrow.Author.Tests.{eq-eqb, ne-eqb, ltb-true, not-true}
-use lib.Dec.{T, eqb}
+use lib.Dec.{T, eqb, lit<}
 use lib.IntN.{ℤ, pos}
-use lib.ListN.{length, getD, replicate, length-replicate, getD-replicate}
+use lib.ListN.{getD, replicate, length-replicate, getD-replicate}
 use lib.Ieee.{Float, nan, inf, fin, binary64, up, down, top, lt, eq, fits, ofBits, toBits}
 use lib.Ieee.Bits.{is-true, ofBits-fits}
 use lib.Ieee.Fits.{up-pos}
 use lib.Ieee.Scale.{finite}
+use Rattle.sequence.proofs.Tests.{neither, both}
 use Rattle.float.specs.Arithmetic.{zero64}
 use Rattle.blocks.specs.Lists.{Words}
 use Rattle.codec.specs.Fields.{infinite, numOf}
@@ -21,23 +22,24 @@ use Rattle.codec.proofs.Kept.{here-head, ofBits-finite}
 use Rattle.codec.specs.Forms.{f64, flag, one, fixed, pair}
 use Rattle.codec.proofs.Forms.{f64-laws, flag-laws, one-laws}
 use Rattle.codec.proofs.Numbers.{numOf-in}
-use Rattle.codec.proofs.Accepted.{accepted}
 use Rattle.settings.specs.declared.Range.{Range}
-use Rattle.chain.specs.declared.Chain.{Chain}
 use Rattle.settings.specs.Settings.{imageRanges, outsideOf, outsideStrand, outsideDuck, outsideSettings, freshSettings}
-use Rattle.chain.specs.Valid.{Valid}
 use Rattle.strand_image.specs.Strand.{strand}
 use Rattle.strand_image.specs.Words.{Finite64, Flag}
-use Rattle.codec.proofs.Again.{Iff, Reads, here-cons, here-none, reads-all, reads-pair, reads-also, kept-float}
+use Rattle.codec.proofs.Again.{Iff, Reads, here-cons, here-none, reads-pair, reads-also, kept-float}
 use Rattle.strand_image.proofs.Codecs.{strand-laws}
 use Rattle.strand_image.proofs.Words.{number, flagged, strand-words}
-use Rattle.image.specs.Layout.{edition, bodyWords, firstUnused, unusedWords, payloadWords}
+use Rattle.surround_image.specs.Surround.{surround}
+use Rattle.surround_image.proofs.Codecs.{surround-size, surround-laws}
+use Rattle.surround_image.proofs.Words.{surround-words}
+use Rattle.image.specs.Layout.{bodyWords, afterBody, edition, surroundWords, firstUnused, unusedWords, payloadWords}
 use Rattle.image.specs.Chain.{strandSettings, duck, signedOf, signedStrand, signedDuck, signedSettings, settingsRule, numbers, settings, loops, body, chain}
-use Rattle.image.specs.Image.{wordsOf}
+use Rattle.image.specs.Edition1.{base}
+use Rattle.image.specs.Edition1 as first
 use Rattle.settings.proofs.Zero.{zero-exponent}
-use Rattle.image.specs.Words.{SettingWord, BodyWords, PayloadWords}
-use Rattle.image.proofs.Valid.{or-false, false-or, both-true, chain-valid, valid-chain}
-use Rattle.image.proofs.Codecs.{size-strand-settings, size-settings, size-strand, size-body, size-chain, strand-settings-laws, numbers-laws, fresh-numbers, fresh-rule, settings-laws, body-laws, edition-laws, chain-laws}
+use Rattle.image.specs.Words.{SettingWord, BodyWords, PayloadWordsOne, PayloadWords}
+use Rattle.image.proofs.Valid.{false-or}
+use Rattle.image.proofs.Codecs.{size-strand-settings, size-settings, size-strand, size-body, strand-settings-laws, numbers-laws, fresh-numbers, fresh-rule, settings-laws, body-laws, edition-laws}
 
 -- ---- negative zero
 
@@ -89,7 +91,7 @@ module _ (r : Range) (w : ℕ) (small : w < 2 ^ 64) where
   bits-x f = ap (toBits binary64) (sym (is-x f)) ∙ kept-float binary64 w .1 (omega arith, f)
 
   inside-parts : (f a b : Bool) → cond f (a || b) true ≡ false → (a ≡ false) × (b ≡ false)
-  inside-parts true a b h = or-false a b h
+  inside-parts true a b h = neither a b h
   inside-parts false a b h = absurd (true≢false h)
 
   setting-from : Finite64 w → outsideOf r (numOf binary64 w) ≡ false → signedOf (numOf binary64 w) ≡ false → SettingWord r w
@@ -119,10 +121,10 @@ module _ (r : Range) (w : ℕ) (small : w < 2 ^ 64) where
 -- ---- the parts of a payload
 
 three-false : (a b c : Bool) → ((a || b) || c) ≡ false → (a ≡ false) × (b ≡ false) × (c ≡ false)
-three-false a b c e = let p = or-false (a || b) c e in let q = or-false a b (p .0) in (q .0, q .1, p .1)
+three-false a b c e = let p = neither (a || b) c e in let q = neither a b (p .0) in (q .0, q .1, p .1)
 
 four-false : (a b c d : Bool) → (((a || b) || c) || d) ≡ false → (a ≡ false) × (b ≡ false) × (c ≡ false) × (d ≡ false)
-four-false a b c d e = let p = or-false ((a || b) || c) d e in let q = three-false a b c (p .0) in (q .0, q .1, q .2, p .1)
+four-false a b c d e = let p = neither ((a || b) || c) d e in let q = three-false a b c (p .0) in (q .0, q .1, q .2, p .1)
 
 module _ (p : List ℕ) (s : Words p) where
   abbrev word : ℕ → ℕ
@@ -203,7 +205,7 @@ module _ (p : List ℕ) (s : Words p) where
       let gb = (g 4 || g 5) || g 6 in
       let gd = ((g 8 || g 9) || g 10) || g 11 in (
         (λ t.
-            let b = both-true (not ((ok || ob) || od)) (not ((gk || gb) || gd)) t in
+            let b = both (not ((ok || ob) || od)) (not ((gk || gb) || gd)) (is-true _ t) in
             let x = three-false ok ob od (not-true ((ok || ob) || od) (b .0)) in
             let y = three-false gk gb gd (not-true ((gk || gb) || gd) (b .1)) in
             let xk = three-false (o (r .threshold) 1) (o (r .«hold_ms») 2) (o (r .«gate_lufs») 3) (x .0) in
@@ -255,16 +257,17 @@ module _ (p : List ℕ) (s : Words p) where
         λ w. a .1 (number p s 1269 .1 (w .0), b .1 (number p s 1270 .1 (w .1), c .1 (number p s 1271 .1 (w .2), number p s 1272 .1 (w .3)))),
       )
 
-  unused-words : Iff (Here p firstUnused (replicate unusedWords 0)) ((k : ℕ) → firstUnused ≤ k → k < payloadWords → word k ≡ 0)
-  unused-words = (
+  -- n zeros from place i on
+  unused-words : (i n m : ℕ) → i + n ≡ m → Iff (Here p i (replicate n 0)) ((k : ℕ) → i ≤ k → k < m → word k ≡ 0)
+  unused-words i n m e = (
     (λ h k b g.
-        let e : firstUnused + (k - firstUnused) ≡ k = omega arith in
-        let m : k - firstUnused < unusedWords = omega arith in
-        ap (λ (n : ℕ). getD p n 0) (sym e) ∙ h .at (k - firstUnused) (omega (arith, length-replicate {A = ℕ} unusedWords 0)) ∙ getD-replicate unusedWords (k - firstUnused) 0 0 m),
+        let f : i + (k - i) ≡ k = omega arith in
+        let o : k - i < n = omega arith in
+        ap (λ (x : ℕ). getD p x 0) (sym f) ∙ h .at (k - i) (omega (arith, length-replicate {A = ℕ} n 0)) ∙ getD-replicate n (k - i) 0 0 o),
     λ u. record {
       at = λ k b.
-          let m : k < unusedWords = omega (arith, length-replicate {A = ℕ} unusedWords 0) in
-          u (firstUnused + k) (omega arith) (omega arith) ∙ sym (getD-replicate unusedWords k 0 0 m);
+          let o : k < n = omega (arith, length-replicate {A = ℕ} n 0) in
+          u (i + k) (omega arith) (omega arith) ∙ sym (getD-replicate n k 0 0 o);
     },
   )
 
@@ -344,27 +347,38 @@ module _ (p : List ℕ) (s : Words p) where
   pub body-words : Iff (Reads body p 1) (BodyWords p)
   body-words = (from-body, to-body)
 
-  -- ---- the whole payload
+  -- ---- the whole payload: it is read and written again as it is exactly where its words keep the rules
 
-  chain-words : Iff (Reads chain p 0) (PayloadWords p)
-  unfolding chain
-  chain-words =
-      let last = fixed (replicate unusedWords 0) in
-      let a = reads-pair edition-laws (pair body last) p 0 1 1 refl refl in
-      let b = reads-pair body-laws last p 1 bodyWords firstUnused size-body refl in (
+  pub base-words : Iff (Reads base p 0) (PayloadWordsOne p)
+  unfolding base
+  base-words =
+      let last = fixed (replicate first.unusedWords 0) in
+      let a = reads-pair (edition-laws first.edition (lit< tt)) (pair body last) p 0 1 1 refl refl in
+      let b = reads-pair body-laws last p 1 bodyWords afterBody size-body refl in
+      let u = unused-words afterBody first.unusedWords first.payloadWords refl in (
         (λ h.
             let q = a .0 h in
             let r = b .0 (q .1) in
-            record { edition = here-head (q .0); body = body-words .0 (r .0); unused = unused-words .0 (r .1) }),
-        λ w. a .1 (here-cons (w .edition) (here-none p 1), b .1 (body-words .1 (w .body), unused-words .1 (w .unused))),
+            record { edition = here-head (q .0); body = body-words .0 (r .0); unused = u .0 (r .1) }),
+        λ w. a .1 (here-cons (w .edition) (here-none p 1), b .1 (body-words .1 (w .body), u .1 (w .unused))),
       )
 
-  -- the words of a valid chain are those that keep the rules
-  pub payload-words : length p ≡ payloadWords → Iff (PayloadWords p) ((c : Chain) × Valid c × (wordsOf c ≡ p))
-  unfolding wordsOf
-  payload-words e =
-      let a = reads-all chain-laws p (e ∙ sym size-chain) in
-      let b = accepted chain-laws p in (
-        (λ w. let c = b .1 (a .0 (chain-words .1 w)) in (c .0, chain-valid (c .0) (c .1), c .2)),
-        λ c. chain-words .0 (a .1 (b .0 (c .0, valid-chain (c .0) (c .1), c .2))),
+  pub chain-words : Iff (Reads chain p 0) (PayloadWords p)
+  unfolding chain
+  chain-words =
+      let last = fixed (replicate unusedWords 0) in
+      let a = reads-pair (edition-laws edition (lit< tt)) (pair body (pair surround last)) p 0 1 1 refl refl in
+      let b = reads-pair body-laws (pair surround last) p 1 bodyWords afterBody size-body refl in
+      let c = reads-pair surround-laws last p afterBody surroundWords firstUnused surround-size refl in
+      let u = unused-words firstUnused unusedWords payloadWords refl in (
+        (λ h.
+            let q = a .0 h in
+            let r = b .0 (q .1) in
+            let t = c .0 (r .1) in
+            record { edition = here-head (q .0); body = body-words .0 (r .0); surround = surround-words p s afterBody .0 (t .0); unused = u .0 (t .1) }),
+        λ w.
+            a .1 (
+              here-cons (w .edition) (here-none p 1),
+              b .1 (body-words .1 (w .body), c .1 (surround-words p s afterBody .1 (w .surround), u .1 (w .unused))),
+            ),
       )

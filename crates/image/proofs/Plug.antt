@@ -3,7 +3,7 @@ use Rattle.demands.specs.Laws.{Laws}
 use Rattle.rules.specs.Rules.{rules}
 use Rattle.rules.proofs.Laws.{laws}
 use Rattle.image.specs.Port.{images, port}
-use Rattle.image.proofs.Laws.{bits-inj, image-length, image-accepted, read-image, read-valid, read-accepted, image-number, saved, save-refused, restored, restore-refused}
+use Rattle.image.proofs.Laws.{bits-inj, image-length, image-accepted, meaning-image, meaning-valid, present, image-number, saved, save-refused, restored, restore-refused}
 
 abbrev pub all-laws : Laws rules images port
 all-laws = record {
@@ -12,9 +12,9 @@ all-laws = record {
     bits-inj = bits-inj;
     image-size = image-length;
     image-passes = image-accepted;
-    meaning-image = read-image;
-    meaning-valid = λ b e. read-valid b;
-    present = λ b e n. read-accepted b e;
+    meaning-image = meaning-image;
+    meaning-valid = λ b e. meaning-valid b;
+    present = present;
   };
   image-number = image-number;
   save-refused = λ s l v h. save-refused s l h;

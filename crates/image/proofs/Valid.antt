@@ -1,10 +1,11 @@
--- What the chain's codec holds good is what the modules call valid.
+-- What the codecs of both editions hold good is what the modules call valid.
 use mathlib.Core.Path.{_≡_, refl, sym, ap, _∙_}
 use mathlib.Core.Bool.{Bool, true, false, not, cond, _&&_, _||_, true≢false}
 use borrow.Author.Tests.{eq-eqb, eqb-true, not-true}
 use lib.Dec.{T, eqb}
 use lib.Ieee.{Float, binary64, toBits, ofBits, eq}
-use lib.Ieee.Bits.{ofBits-toBits}
+use lib.Ieee.Bits.{is-true, ofBits-toBits}
+use Rattle.sequence.proofs.Tests.{neither, both}
 use Rattle.float.specs.Arithmetic.{zero64}
 use Rattle.float.specs.Valid.{Num}
 use Rattle.vad.specs.declared.VadSettings.{VadSettings}
@@ -14,29 +15,25 @@ use Rattle.comis.specs.Loops.{LoopsStored}
 use Rattle.settings.specs.declared.Settings.{Settings}
 use Rattle.settings.specs.declared.Range.{Range}
 use Rattle.settings.specs.declared.Ranges.{Ranges}
+use Rattle.channels.specs.declared.Surround.{Surround}
+use Rattle.channels.specs.Surround.{monoSurround}
+use Rattle.channels.specs.Valid.{SurroundValid}
+use Rattle.channels.proofs.Valid.{surround-fresh}
 use Rattle.chain.specs.declared.Chain.{Chain}
+use Rattle.chain.specs.Base.{Base, widened}
 use Rattle.settings.specs.Settings.{imageRanges, outsideOf, outsideStrand, outsideDuck, outsideSettings, zeroedOf}
 use Rattle.chain.specs.Valid.{Valid}
-use Rattle.vad.specs.Valid as vad
 use Rattle.settings.specs.Valid.{SettingValid, StrandSettingsValid, DuckValid, SettingsValid}
 use Rattle.strand_image.proofs.Codecs.{zero-bits}
 use Rattle.strand_image.proofs.Valid.{strand-valid, valid-strand}
-use Rattle.image.specs.Chain.{strandSettings, duck, signedOf, signedStrand, signedDuck, signedSettings, numbers, settings, loops, Base, body, baseOf, chain}
+use Rattle.surround_image.proofs.Valid.{surround-valid, valid-surround}
+use Rattle.image.specs.Chain.{strandSettings, duck, signedOf, signedStrand, signedDuck, signedSettings, numbers, settings, loops, body, baseOf, withSurround, chain}
+use Rattle.image.specs.Edition1.{base}
 
 -- ---- tests
 
-pub or-false : (a b : Bool) → (a || b) ≡ false → (a ≡ false) × (b ≡ false)
-or-false false false e = (refl, refl)
-or-false false true e = (refl, e)
-or-false true b e = absurd (true≢false e)
-
 pub false-or : {a b : Bool} → a ≡ false → b ≡ false → (a || b) ≡ false
 false-or {a} {b} p q = rw (p, q)
-
-pub both-true : (a b : Bool) → T (a && b) → (a ≡ true) × (b ≡ true)
-both-true true true t = (refl, refl)
-both-true true false t = absurd t
-both-true false b t = absurd t
 
 -- ---- one setting
 
@@ -70,10 +67,10 @@ module _ (r : Ranges) where
   strand-in : (s : VadSettings) → strandSettings .Ok s → outsideStrand r s ≡ false → signedStrand s ≡ false → StrandSettingsValid r s
   unfolding strandSettings outsideStrand signedStrand
   strand-in s ok o g =
-      let a = or-false (outsideOf (r .threshold) (s .threshold) || outsideOf (r .«hold_ms») (s .«hold_ms»)) (outsideOf (r .«gate_lufs») (s .«gate_lufs» .0)) o in
-      let b = or-false (outsideOf (r .threshold) (s .threshold)) (outsideOf (r .«hold_ms») (s .«hold_ms»)) (a .0) in
-      let c = or-false (signedOf (s .threshold) || signedOf (s .«hold_ms»)) (signedOf (s .«gate_lufs» .0)) g in
-      let d = or-false (signedOf (s .threshold)) (signedOf (s .«hold_ms»)) (c .0) in
+      let a = neither (outsideOf (r .threshold) (s .threshold) || outsideOf (r .«hold_ms») (s .«hold_ms»)) (outsideOf (r .«gate_lufs») (s .«gate_lufs» .0)) o in
+      let b = neither (outsideOf (r .threshold) (s .threshold)) (outsideOf (r .«hold_ms») (s .«hold_ms»)) (a .0) in
+      let c = neither (signedOf (s .threshold) || signedOf (s .«hold_ms»)) (signedOf (s .«gate_lufs» .0)) g in
+      let d = neither (signedOf (s .threshold)) (signedOf (s .«hold_ms»)) (c .0) in
       record {
         threshold = setting-valid (r .threshold) (s .threshold) (ok .0) (b .0) (d .0);
         «hold_ms» = setting-valid (r .«hold_ms») (s .«hold_ms») (ok .1 .0) (b .1) (d .1);
@@ -93,12 +90,12 @@ module _ (r : Ranges) where
   duck-in : (s : Duck) → duck .Ok s → outsideDuck r s ≡ false → signedDuck s ≡ false → DuckValid r s
   unfolding duck outsideDuck signedDuck
   duck-in s ok o g =
-      let a = or-false ((outsideOf (r .«ratio_lu») (s .«target_lu») || outsideOf (r .«ratio_lu») (s .«overvoice_lu»)) || outsideOf (r .«max_reduction_db») (s .«max_reduction_db» .0)) (outsideOf (r .speed) (s .speed)) o in
-      let b = or-false (outsideOf (r .«ratio_lu») (s .«target_lu») || outsideOf (r .«ratio_lu») (s .«overvoice_lu»)) (outsideOf (r .«max_reduction_db») (s .«max_reduction_db» .0)) (a .0) in
-      let c = or-false (outsideOf (r .«ratio_lu») (s .«target_lu»)) (outsideOf (r .«ratio_lu») (s .«overvoice_lu»)) (b .0) in
-      let d = or-false ((signedOf (s .«target_lu») || signedOf (s .«overvoice_lu»)) || signedOf (s .«max_reduction_db» .0)) (signedOf (s .speed)) g in
-      let e = or-false (signedOf (s .«target_lu») || signedOf (s .«overvoice_lu»)) (signedOf (s .«max_reduction_db» .0)) (d .0) in
-      let f = or-false (signedOf (s .«target_lu»)) (signedOf (s .«overvoice_lu»)) (e .0) in
+      let a = neither ((outsideOf (r .«ratio_lu») (s .«target_lu») || outsideOf (r .«ratio_lu») (s .«overvoice_lu»)) || outsideOf (r .«max_reduction_db») (s .«max_reduction_db» .0)) (outsideOf (r .speed) (s .speed)) o in
+      let b = neither (outsideOf (r .«ratio_lu») (s .«target_lu») || outsideOf (r .«ratio_lu») (s .«overvoice_lu»)) (outsideOf (r .«max_reduction_db») (s .«max_reduction_db» .0)) (a .0) in
+      let c = neither (outsideOf (r .«ratio_lu») (s .«target_lu»)) (outsideOf (r .«ratio_lu») (s .«overvoice_lu»)) (b .0) in
+      let d = neither ((signedOf (s .«target_lu») || signedOf (s .«overvoice_lu»)) || signedOf (s .«max_reduction_db» .0)) (signedOf (s .speed)) g in
+      let e = neither (signedOf (s .«target_lu») || signedOf (s .«overvoice_lu»)) (signedOf (s .«max_reduction_db» .0)) (d .0) in
+      let f = neither (signedOf (s .«target_lu»)) (signedOf (s .«overvoice_lu»)) (e .0) in
       record {
         «target_lu» = setting-valid (r .«ratio_lu») (s .«target_lu») (ok .1 .0) (c .0) (f .0);
         «overvoice_lu» = setting-valid (r .«ratio_lu») (s .«overvoice_lu») (ok .1 .1 .0) (c .1) (f .1);
@@ -122,11 +119,11 @@ settings-valid : (s : Settings) → settings .Ok s → SettingsValid imageRanges
 unfolding settings numbers outsideSettings signedSettings
 settings-valid s ok =
     let r = imageRanges in
-    let t = both-true (not (outsideSettings imageRanges s)) (not (signedSettings s)) (ok .1) in
-    let a = or-false (outsideStrand r (s .key) || outsideStrand r (s .bed)) (outsideDuck r (s .duck)) (not-true _ (t .0)) in
-    let b = or-false (outsideStrand r (s .key)) (outsideStrand r (s .bed)) (a .0) in
-    let c = or-false (signedStrand (s .key) || signedStrand (s .bed)) (signedDuck (s .duck)) (not-true _ (t .1)) in
-    let d = or-false (signedStrand (s .key)) (signedStrand (s .bed)) (c .0) in
+    let t = both (not (outsideSettings imageRanges s)) (not (signedSettings s)) (is-true _ (ok .1)) in
+    let a = neither (outsideStrand r (s .key) || outsideStrand r (s .bed)) (outsideDuck r (s .duck)) (not-true _ (t .0)) in
+    let b = neither (outsideStrand r (s .key)) (outsideStrand r (s .bed)) (a .0) in
+    let c = neither (signedStrand (s .key) || signedStrand (s .bed)) (signedDuck (s .duck)) (not-true _ (t .1)) in
+    let d = neither (signedStrand (s .key)) (signedStrand (s .bed)) (c .0) in
     record {
       key = strand-in r (s .key) (ok .0 .0) (b .0) (d .0);
       bed = strand-in r (s .bed) (ok .0 .1 .0) (b .1) (d .1);
@@ -154,32 +151,38 @@ valid-loops : (l : Loops) → LoopsStored l → loops .Ok l
 unfolding loops
 valid-loops l v = (v .slow, (v .mid, (v .fast, v .hold)))
 
-pub record BaseValid (b : Base) : Type 0 where
-  pub settings : SettingsValid imageRanges (b .settings)
-  pub key : vad.Valid (b .key)
-  pub bed : vad.Valid (b .bed)
-  pub loops : LoopsStored (b .loops)
-
-pub body-valid : (b : Base) → body .Ok b → BaseValid b
+-- a body is good exactly where it is valid with any valid channels beside it
+pub body-valid : (b : Base) (s : Surround) → body .Ok b → SurroundValid s → Valid (withSurround b s)
 unfolding body
-body-valid b ok = record {
+body-valid b s ok v = record {
   settings = settings-valid (b .settings) (ok .0);
   key = strand-valid (b .key) (ok .1 .0);
   bed = strand-valid (b .bed) (ok .1 .1 .0);
   loops = loops-valid (b .loops) (ok .1 .1 .1);
+  surround = v;
 }
 
-pub valid-body : (b : Base) → BaseValid b → body .Ok b
+pub valid-body : (c : Chain) → Valid c → body .Ok (baseOf c)
 unfolding body
-valid-body b v =
-    (valid-settings (b .settings) (v .settings), (valid-strand (b .key) (v .key), (valid-strand (b .bed) (v .bed), valid-loops (b .loops) (v .loops))))
+valid-body c v =
+    (valid-settings (c .settings) (v .settings), (valid-strand (c .key) (v .key), (valid-strand (c .bed) (v .bed), valid-loops (c .loops) (v .loops))))
+
+-- ---- edition 1
+
+pub base-valid : (b : Base) → base .Ok b → Valid (widened b)
+unfolding base
+base-valid b ok = body-valid b monoSurround (ok .1 .0) surround-fresh
+
+pub valid-base : (b : Base) → Valid (widened b) → base .Ok b
+unfolding base
+valid-base b v = (tt, (valid-body (widened b) v, tt))
 
 -- ---- the chain
 
 pub chain-valid : (c : Chain) → chain .Ok c → Valid c
 unfolding chain
-chain-valid c ok = let v = body-valid (baseOf c) (ok .1 .0) in record { settings = v .settings; key = v .key; bed = v .bed; loops = v .loops }
+chain-valid c ok = body-valid (baseOf c) (c .surround) (ok .1 .0) (surround-valid (c .surround) (ok .1 .1 .0))
 
 pub valid-chain : (c : Chain) → Valid c → chain .Ok c
 unfolding chain
-valid-chain c v = (tt, (valid-body (baseOf c) (record { settings = v .settings; key = v .key; bed = v .bed; loops = v .loops }), tt))
+valid-chain c v = (tt, (valid-body c v, (valid-surround (c .surround) (v .surround), tt)))

@@ -1,4 +1,4 @@
--- The 1,323 words of a chain, as codecs: each is how a part is written and read, and which values it holds. Definitions only.
+-- The 1,386 words of a chain, as codecs: each is how a part is written and read, and which values it holds. Definitions only.
 use mathlib.Core.Bool.{Bool, false, not, cond, _&&_, _||_}
 use mathlib.Core.List.{[], _∷_}
 use lib.ListN.{replicate}
@@ -8,15 +8,18 @@ use Rattle.codec.specs.Codec.{Codec}
 use Rattle.codec.specs.Forms.{f64, flag, one, fixed, pair, as-a, also}
 use Rattle.float.specs.Arithmetic.{zero64}
 use Rattle.vad.specs.declared.VadSettings.{VadSettings}
-use Rattle.vad.specs.declared.Strand.{Strand}
 use Rattle.ratio.specs.declared.Duck.{Duck}
 use Rattle.comis.specs.declared.loop_bank.Loops.{Loops}
 use Rattle.settings.specs.declared.Settings.{Settings}
+use Rattle.channels.specs.declared.Surround.{Surround}
 use Rattle.chain.specs.declared.Chain.{Chain}
+use Rattle.chain.specs.Base.{Base}
 use Rattle.settings.specs.Settings.{imageRanges, outsideSettings, freshSettings}
 use Rattle.comis.specs.LoopBank.{db}
 use Rattle.strand_image.specs.Strand.{strand}
-use Rattle.image.specs.Layout.{edition, unusedWords}
+use Rattle.surround_image.specs.Surround.{surround}
+use Rattle.image.specs.Layout.{edition, blockCount, unusedWords}
+use Rattle.image.specs.Edition.{Edition}
 
 -- ---- settings
 
@@ -74,24 +77,21 @@ loops = as-a (λ s. (s .slow .0, (s .mid .0, (s .fast .0, s .«hold_remaining_se
 
 -- ---- the body: words 1 to 1,272, for the settings, key strand, bed strand and loops
 
--- the state of edition 1
-pub record Base : Type 0 where
-  pub settings : Settings
-  pub key : Strand
-  pub bed : Strand
-  pub loops : Loops
-
 unfoldable pub body : Codec Base
 body = as-a (λ b. (b .settings, (b .key, (b .bed, b .loops)))) (λ p. record { settings = p .0; key = p .1 .0; bed = p .1 .1 .0; loops = p .1 .1 .1 })
     (pair settings (pair strand (pair strand loops)))
 
--- ---- the chain: the edition, the body, and the unused words
+-- ---- the chain: the edition, the body, the bed's channels, and the unused words
 
 abbrev pub baseOf : Chain → Base
 baseOf c = record { settings = c .settings; key = c .key; bed = c .bed; loops = c .loops }
 
-abbrev pub chainOf : Base → Chain
-chainOf b = record { settings = b .settings; key = b .key; bed = b .bed; loops = b .loops }
+abbrev pub withSurround : Base → Surround → Chain
+withSurround b s = record { settings = b .settings; key = b .key; bed = b .bed; loops = b .loops; surround = s }
 
 unfoldable pub chain : Codec Chain
-chain = as-a (λ c. (tt, (baseOf c, tt))) (λ p. chainOf (p .1 .0)) (pair (fixed (edition ∷ [])) (pair body (fixed (replicate unusedWords 0))))
+chain = as-a (λ c. (tt, (baseOf c, (c .surround, tt)))) (λ p. withSurround (p .1 .0) (p .1 .1 .0))
+    (pair (fixed (edition ∷ [])) (pair body (pair surround (fixed (replicate unusedWords 0)))))
+
+abbrev pub secondEdition : Edition Chain
+secondEdition = record { blocks = blockCount; words = chain }

@@ -1,49 +1,44 @@
--- Saving and restoring a chain: its image, which bytes are turned away and why, and what the two calls do. Definitions only.
-use mathlib.Core.Bool.{Bool, cond, not}
-use mathlib.Core.List.{List, [], _∷_}
+-- Saving and restoring a chain: its image, what bytes of either edition mean, which are turned away and why, and what the two calls do.
+-- Definitions only.
+use mathlib.Core.Bool.{Bool, cond}
+use mathlib.Core.List.{List}
 use Prim.Native.Nat.{ℕ}
-use lib.Dec.{eqb}
-use lib.ListN.{length}
-use Rattle.blocks.specs.Lists.{same}
-use Rattle.blocks.specs.Words.{firstBad}
-use Rattle.blocks.specs.Image.{imageOf, payloadOf}
 use Rattle.refusal.specs.declared.Refusal.the-variants.{WrongLength, BadCheck, ForeignImage}
-use Rattle.refusal.specs.Table.{_means_, firstNumber}
 use Rattle.chain.specs.declared.Chain.{Chain}
 use Rattle.chain.specs.declared.Changed.{Changed}
 use Rattle.chain.specs.declared.Verdict.{Verdict}
 use Rattle.chain.specs.declared.Verdict.the-variants.{Passed, Refused}
 use Rattle.chain.specs.Chain.{changed, unchanged}
-use Rattle.image.specs.Layout.{blockCount, imageBytes}
-use Rattle.image.specs.Chain.{chain}
+use Rattle.chain.specs.Base.{widened}
+use Rattle.image.specs.Edition.{Edition, imageIn, readIn, lengthIn, checksIn, oursIn, refusesIn}
+use Rattle.image.specs.Edition1.{firstEdition}
+use Rattle.image.specs.Chain.{chain, secondEdition}
 
 -- the words of a chain: every number of it, by its bits
 unfoldable pub wordsOf : Chain → List ℕ
 wordsOf c = chain .enc c
 
--- the image of a chain
-unfoldable pub image : Chain → List ℕ
-image c = imageOf blockCount (wordsOf c)
+-- the image of a chain, which a save writes
+abbrev pub image : Chain → List ℕ
+image c = imageIn secondEdition c
 
--- the chain that some bytes are read as; a word that breaks a rule is read as some good value
-unfoldable pub readAs : List ℕ → Chain
-readAs b = chain .dec (payloadOf b) 0
+-- ---- bytes of either edition: their length says which
 
--- bytes are a chain's image: writing what is read gives them again
-unfoldable pub ours : List ℕ → Bool
-ours b = same (image (readAs b)) b
+-- as long as an image of edition 1
+abbrev pub oldLength : List ℕ → Bool
+oldLength b = lengthIn firstEdition b
 
+-- as long as an image that is saved
 abbrev pub rightLength : List ℕ → Bool
-rightLength b = eqb (length b) imageBytes
+rightLength b = lengthIn secondEdition b
 
-abbrev pub rightChecks : List ℕ → Bool
-rightChecks b = eqb (firstBad b) blockCount
+-- the chain that accepted bytes stand for; a bed of edition 1 is one channel at 0, 0
+unfoldable pub meaning : List ℕ → Chain
+meaning b = cond (oldLength b) (widened (readIn firstEdition b)) (readIn secondEdition b)
 
--- an image's number in the specification's table; 0: it passes
+-- their number in the specification's table; 0: they pass
 unfoldable pub refusesImage : List ℕ → ℕ
-refusesImage b =
-    firstNumber
-    (not (rightLength b) means WrongLength ∷ not (rightChecks b) means BadCheck ∷ not (ours b) means ForeignImage ∷ [])
+refusesImage b = cond (oldLength b) (refusesIn firstEdition b) (refusesIn secondEdition b)
 
 -- ---- the two calls
 
@@ -54,8 +49,12 @@ saveVerdict b = cond (rightLength b) Passed (Refused WrongLength)
 unfoldable pub savedIn : Chain → List ℕ → List ℕ
 savedIn c b = cond (rightLength b) (image c) b
 
-unfoldable pub restoreOf : Chain → List ℕ → Changed
-restoreOf old b =
-    cond (rightLength b)
-    (cond (rightChecks b) (cond (ours b) (changed (readAs b)) (unchanged old ForeignImage)) (unchanged old BadCheck))
+-- the new chain where bytes pass an edition's tests, or the old one and why not
+abbrev pub restoredIn : {A : Type 0} → Edition A → List ℕ → Chain → Chain → Changed
+restoredIn e b old new =
+    cond (lengthIn e b)
+    (cond (checksIn e b) (cond (oursIn e b) (changed new) (unchanged old ForeignImage)) (unchanged old BadCheck))
     (unchanged old WrongLength)
+
+unfoldable pub restoreOf : Chain → List ℕ → Changed
+restoreOf old b = cond (oldLength b) (restoredIn firstEdition b old (meaning b)) (restoredIn secondEdition b old (meaning b))

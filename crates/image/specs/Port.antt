@@ -11,7 +11,7 @@ use Rattle.chain.specs.declared.Verdict.the-variants.{Passed, Refused}
 use Rattle.rules.specs.Rules.{rules}
 use Rattle.rules.specs.Rules as events
 use Rattle.image.specs.Layout.{imageBytes}
-use Rattle.image.specs.Image.{wordsOf, image, readAs, rightLength, refusesImage, saveVerdict, savedIn, restoreOf}
+use Rattle.image.specs.Image.{wordsOf, image, rightLength, meaning, refusesImage, saveVerdict, savedIn, restoreOf}
 
 module _ {Answer : Type 0} where
   -- what a verdict is to the caller
@@ -29,11 +29,11 @@ module _ {Answer : Type 0} where
 abbrev pub refusesSave : List ℕ → ℕ
 refusesSave b = cond (rightLength b) 0 (numberOf WrongLength)
 
--- the specification's rules of the images
+-- the specification's rules of the images of both editions
 abbrev pub images : Images rules
-images = record { size = imageBytes; image = image; refusesImage = refusesImage; meaning = readAs; bits = wordsOf }
+images = record { size = imageBytes; image = image; refusesImage = refusesImage; meaning = meaning; bits = wordsOf }
 
--- what all five functions do, as their contracts say it
+-- what all six functions do, as their contracts say it
 abbrev pub port : Port rules (allCalls rules images)
 port c (event e) = events.port c e
 port c (save b) = onSave c b

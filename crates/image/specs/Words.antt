@@ -1,4 +1,4 @@
--- The specification's rules for the 1,323 words of a payload, word by word and in its order. Definitions only.
+-- The specification's rules for the words of a payload of either edition, word by word and in its order. Definitions only.
 use mathlib.Core.Path.{_≡_}
 use mathlib.Core.Bool.{false}
 use mathlib.Core.List.{List}
@@ -8,7 +8,9 @@ use lib.Ieee.{binary64, ofBits, lt}
 use Rattle.settings.specs.declared.Range.{Range}
 use Rattle.settings.specs.Settings.{imageRanges}
 use Rattle.strand_image.specs.Words.{Finite64, Flag, StrandWords}
-use Rattle.image.specs.Layout.{edition, firstUnused, payloadWords}
+use Rattle.surround_image.specs.Words.{SurroundWords}
+use Rattle.image.specs.Layout.{afterBody, edition, firstUnused, payloadWords}
+use Rattle.image.specs.Edition1 as first
 
 -- a setting: finite, not below its range nor above it, and no negative zero
 pub record SettingWord (r : Range) (w : ℕ) : Type 0 where
@@ -17,7 +19,7 @@ pub record SettingWord (r : Range) (w : ℕ) : Type 0 where
   pub high : lt (r .high) (ofBits binary64 w) ≡ false
   pub plain : w ≡ 0x8000000000000000 → ⊥
 
--- words 1 to 1,272: settings, key strand, bed strand, loops
+-- words 1 to 1,272, in either edition: settings, key strand, bed strand, loops
 pub record BodyWords (p : List ℕ) : Type 0 where
   pub key-threshold : SettingWord (imageRanges .threshold) (getD p 1 0)
   pub key-hold-ms : SettingWord (imageRanges .«hold_ms») (getD p 2 0)
@@ -38,7 +40,15 @@ pub record BodyWords (p : List ℕ) : Type 0 where
   pub fast : Finite64 (getD p 1271 0)
   pub hold-remaining : Finite64 (getD p 1272 0)
 
+-- edition 1: from word 1,273 on zeros
+pub record PayloadWordsOne (p : List ℕ) : Type 0 where
+  pub edition : getD p 0 0 ≡ first.edition
+  pub body : BodyWords p
+  pub unused : (k : ℕ) → afterBody ≤ k → k < first.payloadWords → getD p k 0 ≡ 0
+
+-- edition 2: the bed's channels from word 1,273 on
 pub record PayloadWords (p : List ℕ) : Type 0 where
   pub edition : getD p 0 0 ≡ edition
   pub body : BodyWords p
+  pub surround : SurroundWords p afterBody
   pub unused : (k : ℕ) → firstUnused ≤ k → k < payloadWords → getD p k 0 ≡ 0

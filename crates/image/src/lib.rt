@@ -1,7 +1,10 @@
-// Images of a chain: saved into lent bytes, and restored from them. An image is 21 blocks of 512 bytes; the words between the
-// checks are the chain's numbers by their bits.
+// Images of a chain: saved into lent bytes, and restored from them. An image is 22 blocks of 512 bytes; the words between the
+// checks are the chain's numbers by their bits. That is edition 2. An image of edition 1, 21 blocks, has no words for the bed's
+// channels: it restores as a chain whose bed is one channel at 0, 0.
 ghost use mathlib.Core.Path.{_≡_};
+ghost use mathlib.Core.Bool.{cond};
 ghost use Prim.Native.Nat.{_+_, _^_, _≤_};
+ghost use Rattle.blocks.specs.Lists.{laid};
 ghost use Rattle.codec.specs.Run.{Run};
 ghost use Rattle.image.specs.Chain.{
   strandSettings,
@@ -15,13 +18,17 @@ ghost use Rattle.image.specs.Chain.{
   loops,
   body,
   baseOf,
+  withSurround,
   chain,
 };
-ghost use Rattle.image.specs.Layout.{payloadWords, bodyWords};
+ghost use Rattle.chain.specs.Base.{widened};
+ghost use Rattle.image.specs.Layout.{bodyWords, payloadWords};
+ghost use Rattle.image.specs.Edition1 as first;
 ghost use Rattle.image.specs.Image.{saveVerdict, savedIn, restoreOf};
 use chain::Chain;
 use chain::Changed;
 use chain::Verdict;
+use channels::Surround;
 use comis::loop_bank::Loops;
 use float::Db;
 use float::Lufs;
@@ -30,15 +37,28 @@ use refusal::Refusal;
 use settings::Settings;
 use vad::VadSettings;
 
-const EDITION: u64 = 1;
+const BLOCK_BYTES: usize = 512;
 
-const BLOCKS: usize = 21;
+const BLOCK_WORDS: usize = 63; // before the check
 
-const BYTES: usize = 512 * BLOCKS;
+const EDITION: u64 = 2;
 
-const WORDS: usize = 63 * BLOCKS; // of a payload
+const BLOCKS: usize = 22;
 
-// Where the parts of a payload begin, after the edition.
+pub const BYTES: usize = BLOCK_BYTES * BLOCKS;
+
+const WORDS: usize = BLOCK_WORDS * BLOCKS; // of a payload
+
+// Edition 1.
+const OLD_EDITION: u64 = 1;
+
+const OLD_BLOCKS: usize = 21;
+
+const OLD_BYTES: usize = BLOCK_BYTES * OLD_BLOCKS;
+
+const OLD_WORDS: usize = BLOCK_WORDS * OLD_BLOCKS;
+
+// Where the parts of a payload begin, after the edition; in edition 1 the words from the bed's channels on are zero.
 const SETTINGS: usize = 1;
 
 const KEY: u16 = 13;
@@ -47,9 +67,15 @@ const BED: u16 = 641;
 
 const LOOPS: usize = 1269;
 
-const UNUSED: usize = 1273;
+const SURROUND: u16 = 1273;
+
+const UNUSED: usize = SURROUND as usize + 88;
 
 const UNUSED_WORDS: usize = WORDS - UNUSED; // zero
+
+const OLD_UNUSED: usize = SURROUND as usize;
+
+const OLD_UNUSED_WORDS: usize = OLD_WORDS - OLD_UNUSED;
 
 // ---- writing, from place `at` on
 
@@ -108,7 +134,28 @@ fn put_chain(w: &mut [u64], c: Chain)
 {
     codec::put(w, 0, EDITION);
     put_body(w, c);
+    surround_image::put_surround(w, SURROUND, c.surround);
     codec::put_zeros(w, UNUSED, UNUSED_WORDS);
+}
+
+// The words of edition 1, which leaves the bed's channels out.
+fn put_base(w: &mut [u64], c: Chain)
+    ensures { λ _. ⌜ Run (now (w .entry)) 0 first.payloadWords (first.base .enc (baseOf c)) (now (w .exit)) ⌝ }
+{
+    codec::put(w, 0, OLD_EDITION);
+    put_body(w, c);
+    codec::put_zeros(w, OLD_UNUSED, OLD_UNUSED_WORDS);
+}
+
+// The words of edition 1 where `older` says so, else of edition 2.
+fn put_either(w: &mut [u64], older: bool, c: Chain)
+    ensures { λ _. ⌜ now (w .exit) ≡ laid (now (w .entry)) 0 (cond older (first.base .enc (baseOf c)) (chain .enc c)) ⌝ }
+{
+    if older {
+        put_base(w, c);
+        return;
+    }
+    put_chain(w, c);
 }
 
 // ---- reading, from place `at` on
@@ -216,8 +263,9 @@ fn get_loops(w: &[u64], at: usize) -> Loops
     }
 }
 
-fn get_chain(w: &[u64]) -> Chain
-    ensures { λ r. ⌜ r ≡ chain .dec (now (w .entry)) 0 ⌝ }
+// The settings, strands and loops, beside the bed's channels.
+fn get_body(w: &[u64], surround: Surround) -> Chain
+    ensures { λ r. ⌜ r ≡ withSurround (body .dec (now (w .entry)) 1) surround ⌝ }
 {
     let settings = get_settings(w, SETTINGS);
     let key = strand_image::get_strand(w, KEY);
@@ -228,12 +276,23 @@ fn get_chain(w: &[u64]) -> Chain
         key,
         bed,
         loops,
+        surround,
     }
+}
+
+// The chain that a payload of edition 1 is read as where `older` says so, else one of edition 2.
+fn get_either(w: &[u64], older: bool) -> Chain
+    ensures { λ r. ⌜ r ≡ cond older (widened (first.base .dec (now (w .entry)) 0)) (chain .dec (now (w .entry)) 0) ⌝ }
+{
+    if older {
+        return get_body(w, Surround::new());
+    }
+    get_body(w, surround_image::get_surround(w, SURROUND))
 }
 
 // ---- the two calls
 
-// Saves a chain into b. Refusal 6: b isn't 10,752 bytes long; then none of them is changed.
+// Saves a chain into b. Refusal 6: b isn't 11,264 bytes long; then none of them is changed.
 pub fn save(c: Chain, b: &mut [u8]) -> Verdict
     ensures { λ r. ⌜ (r ≡ saveVerdict (now (b .entry))) × (now (b .exit) ≡ savedIn c (now (b .entry))) ⌝ }
 {
@@ -246,18 +305,18 @@ pub fn save(c: Chain, b: &mut [u8]) -> Verdict
     Verdict::Passed
 }
 
-// Restores a chain: the one whose image is b, or the old one and why not. Refusals 6: b isn't 10,752 bytes long; 7: a block's check
-// is wrong; 8: a word breaks the image rules, so that writing what was read gives other bytes.
+// Restores a chain: the one that b means, or the old one and why not. Refusals 6: b is neither 11,264 bytes long nor 10,752; 7: a block's
+// check is wrong; 8: a word breaks the image rules, so that writing what was read gives other words.
 pub fn restore(old: Chain, b: &[u8]) -> Changed
     ensures { λ r. ⌜ r ≡ restoreOf old (now (b .entry)) ⌝ }
 {
-    if b.len() != BYTES {
+    if (b.len() != BYTES) & (b.len() != OLD_BYTES) {
         return Changed {
             chain: old,
             verdict: Verdict::Refused(Refusal::WrongLength),
         };
     }
-    if blocks::first_bad(b) != BLOCKS {
+    if blocks::first_bad(b) != b.len() / BLOCK_BYTES {
         return Changed {
             chain: old,
             verdict: Verdict::Refused(Refusal::BadCheck),
@@ -265,10 +324,11 @@ pub fn restore(old: Chain, b: &[u8]) -> Changed
     }
     let mut w = [0u64; WORDS];
     blocks::payload(b, &mut w);
-    let new = get_chain(&w);
-    let mut again = [0u8; BYTES];
-    save(new, &mut again);
-    if blocks::same(&again, b) {
+    let older = b.len() == OLD_BYTES;
+    let new = get_either(&w, older);
+    let mut again = [0u64; WORDS];
+    put_either(&mut again, older, new);
+    if blocks::same_words(&again, &w) {
         return Changed {
             chain: new,
             verdict: Verdict::Passed,

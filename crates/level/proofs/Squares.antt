@@ -14,27 +14,27 @@ use Rattle.level.specs.Bs1770.{energy, power, powers, fastCoeff, smoothe
 use Rattle.float.specs.Arithmetic.{_⊕_, _⊖_, _⊗_, _⊘_, zero64, one64, whole}
 use Rattle.level.specs.Level.{noChannel, joinedOf}
 
-zero-sum : NoMinus binary64 zero64
+pub zero-sum : NoMinus binary64 zero64
 unfolding ofBits fits
 zero-sum = (tt, tt)
 
-energy-sum : (ys : List Float) → NoMinus binary64 (energy ys)
+pub energy-sum : (ys : List Float) → NoMinus binary64 (energy ys)
 unfolding energy
 energy-sum [] = zero-sum
 energy-sum (y ∷ ys) = add-sum binary64 (energy ys) (y ⊗ y) (energy-sum ys .0) (square-plus binary64 y)
 
-frame-plus : T (plus (whole 480))
+pub frame-plus : T (plus (whole 480))
 unfolding ofInt
 frame-plus = tt
 
-mean-sum : (ys : List Float) → NoMinus binary64 (energy ys ⊘ whole 480)
+pub mean-sum : (ys : List Float) → NoMinus binary64 (energy ys ⊘ whole 480)
 mean-sum ys = div-sum binary64 (energy ys) (whole 480) (energy-sum ys .0) frame-plus
 
 coeff-plus : T (plus fastCoeff) × T (plus (one64 ⊖ fastCoeff))
 unfolding ofBits sub
 coeff-plus = (tt, tt)
 
-smoothed-sum : (ys : List Float) → NoMinus binary64 (smoothed ys)
+pub smoothed-sum : (ys : List Float) → NoMinus binary64 (smoothed ys)
 unfolding smoothed
 smoothed-sum [] = zero-sum
 smoothed-sum (y ∷ ys) =
@@ -65,7 +65,7 @@ unfolding powers energy ofBits ofInt div
 silence zero s h = refl
 silence (suc n) s h = ap (λ (z : Float). foldl _⊕_ z (powers n [])) (and-nil binary64 s h) ∙ silence n s h
 
-empty : (ys : List Float) → length ys ≡ 0 → ys ≡ []
+pub empty : (ys : List Float) → length ys ≡ 0 → ys ≡ []
 empty [] h = refl
 empty (y ∷ ys) h = absurd (omega (arith, h))
 

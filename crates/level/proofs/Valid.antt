@@ -40,7 +40,7 @@ step-fits w x = record {
   fast = add-fits binary64 _ _;
 }
 
-fold-fits : (w : Weighing) (xs : List Float) → Fit w → Fit (foldl stepOf w xs)
+pub fold-fits : (w : Weighing) (xs : List Float) → Fit w → Fit (foldl stepOf w xs)
 fold-fits w [] h = h
 fold-fits w (x ∷ xs) h = fold-fits (stepOf w x) xs (step-fits w x)
 
@@ -58,7 +58,7 @@ run-fits l xs v =
 
 -- ---- fresh, and a frame more
 
-zero-num : Num binary64 zero64
+pub zero-num : Num binary64 zero64
 unfolding ofBits fits
 zero-num = (tt, tt)
 
@@ -71,7 +71,7 @@ fresh-valid = record {
   powers = counted-none (Num binary64) zero64 300;
 }
 
-one : (x : Float) → Num binary64 x → (k : ℕ) → k < 1 → Num binary64 (getD (x ∷ []) k zero64)
+pub one : (x : Float) → Num binary64 x → (k : ℕ) → k < 1 → Num binary64 (getD (x ∷ []) k zero64)
 one x h zero l = h
 one x h (suc k) l = absurd (omega arith)
 

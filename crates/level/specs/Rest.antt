@@ -8,6 +8,8 @@ use Rattle.biquad.specs.Sections.{kShelf, kHighPass}
 use Rattle.biquad.specs.Tick.{tickOf}
 use Rattle.float.specs.Same.{sameOf, allSame}
 use Rattle.level.specs.declared.Weighing.{Weighing}
+use Rattle.level.specs.Bs1770.{fastCoeff}
+use Rattle.float.specs.Arithmetic.{_⊕_, _⊖_, _⊗_, one64}
 use Rattle.level.specs.Weighing.{weighed}
 
 -- surely the same: the same bits, and no NaN
@@ -35,3 +37,7 @@ heldStep v w = weighed w (record { state = w .shelf; y = v }) (tickOf (w .«high
 -- one for each sample
 unfoldable pub heldRun : Float → Weighing → List Float → Weighing
 heldRun v w xs = foldl (λ (u : Weighing) (x : Float). heldStep v u) w xs
+
+-- a sample for which both sections' states stay and y2 is the square of the high-pass's output
+abbrev pub stillStep : Float → Weighing → Weighing
+stillStep y2 w = record { shelf = w .shelf; «high_pass» = w .«high_pass»; fast = w .fast ⊗ fastCoeff ⊕ y2 ⊗ (one64 ⊖ fastCoeff); energy = w .energy ⊕ y2 }

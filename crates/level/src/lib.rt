@@ -6,7 +6,7 @@ ghost use lib.Dec.{T};
 ghost use lib.ListN.{length, replicate};
 ghost use Rattle.biquad.specs.Tick.{tickOf};
 ghost use Rattle.float.specs.AllFinite.{allFinite};
-ghost use Rattle.level.specs.Rest.{sameState, holdsOf, restsOf, shelfOutput, heldStep, heldRun};
+ghost use Rattle.level.specs.Rest.{sameState, holdsOf, restsOf, shelfOutput, heldStep, heldRun, stillStep};
 ghost use Rattle.float.specs.Same.{sameOf, allSame};
 ghost use Rattle.level.specs.Weighing.{cleanOf, stepOf, runOf};
 ghost use Rattle.level.specs.Level.{
@@ -156,6 +156,20 @@ impl Weighing {
         let y2 = b.y * b.y;
         let shelf = self.shelf;
         let high_pass = b.state;
+        Weighing {
+            shelf,
+            high_pass,
+            fast: self.fast * FAST_COEFF + y2 * (1.0 - FAST_COEFF),
+            energy: self.energy + y2,
+        }
+    }
+
+    // One sample for which both sections' states stay and y2 is the square of the high-pass's output.
+    pub fn still_step(self, y2: f64) -> Weighing
+        ensures { λ r. ⌜ r ≡ stillStep y2 self ⌝ }
+    {
+        let shelf = self.shelf;
+        let high_pass = self.high_pass;
         Weighing {
             shelf,
             high_pass,

@@ -1,4 +1,4 @@
-// Whole frames, settings calls and resets through a chain, against what the Rust answered. The file is calls up to its end, each its
+// Whole frames, settings calls, resets and layout calls through a chain, against what the Rust answered. The file is calls up to its end, each its
 // number, its arguments, then what it answers: a code (0 passed, else the refusal), and 41 words after a frame's code 0 where they are
 // recorded. compare/src/calls.rs has the arguments.
 use super::bits;
@@ -6,16 +6,19 @@ use super::input::BUFFER;
 use super::replay;
 use super::replay::Replay;
 use super::signal;
-use super::signal::Signal;
+use super::strands;
+use super::strands::BED;
+use super::strands::SIGNALS;
 use chain::Chain;
 use chain::Changed;
 use chain::Outcome;
 use chain::Verdict;
+use level::FRAME;
 
 // Words of an answer.
 const ANSWER: usize = 41;
 
-// Samples that a strand of an odd frame has room for.
+// Samples that the key of an odd frame has room for.
 const ROOM: usize = 512;
 
 // What has been compared, the chain for the next call, and how many calls its list had.
@@ -27,8 +30,7 @@ struct Run {
 
 // Two strands for frames that follow one another.
 struct Given {
-    key: Signal,
-    bed: Signal,
+    signals: [u64; SIGNALS],
     every: u64, // frames from one whole answer to the next
 }
 
@@ -108,13 +110,44 @@ fn whole(i: u64, every: u64) -> bool {
     i % every == 0
 }
 
+// The first k and b samples of the strands as a frame.
+fn cut(
+    mut run: Run,
+    name: &[u8],
+    buffer: &mut [u8; BUFFER],
+    key: &[f32],
+    bed: &[f32],
+    k: usize,
+    b: usize,
+    whole: bool,
+) -> Run {
+    if k <= key.len() {
+        if b <= bed.len() {
+            return step(run, name, buffer, &key[..k], &bed[..b], whole);
+        }
+    }
+    let r = run.r;
+    run.r = r.stop();
+    run
+}
+
 // Frame i, from sample `first` on.
 fn frame(before: Run, name: &[u8], buffer: &mut [u8; BUFFER], g: Given, first: u64, i: u64) -> Run {
-    let key_signal = g.key;
-    let bed_signal = g.bed;
+    let signals = g.signals;
+    let key_signal = strands::signal(&signals, 0);
     let key = key_signal.frame(first);
-    let bed = bed_signal.frame(first);
-    step(before, name, buffer, &key, &bed, whole(i, g.every))
+    let n = strands::length(&signals);
+    let bed = strands::bed(&signals, first, n);
+    cut(
+        before,
+        name,
+        buffer,
+        &key,
+        &bed,
+        FRAME,
+        n,
+        whole(i, g.every),
+    )
 }
 
 fn play(
@@ -137,63 +170,55 @@ fn play(
     run
 }
 
-fn frames(mut run: Run, name: &[u8], buffer: &mut [u8; BUFFER]) -> Run {
-    let mut w = [0u64; 9];
+// Frames of a bed of one channel or of several.
+fn frames(mut run: Run, name: &[u8], buffer: &mut [u8; BUFFER], several: bool) -> Run {
+    let mut signals = [0u64; SIGNALS];
+    let mut w = [0u64; 3];
     let before = run.r;
-    run.r = before.words(buffer, &mut w);
+    let read = strands::read(before, buffer, several, &mut signals);
+    run.r = read.words(buffer, &mut w);
     let g = Given {
-        key: Signal::new(w[0], w[1], w[2]),
-        bed: Signal::new(w[3], w[4], w[5]),
-        every: w[8],
+        signals,
+        every: w[2],
     };
-    play(run, name, buffer, g, w[6], w[7])
+    play(run, name, buffer, g, w[0], w[1])
 }
 
-// A strand of an odd frame. Its sample `at` is replaced where `replaced` says so.
-fn strand(s: Signal, first: u64, replaced: bool, at: u64, word: u64) -> [f32; ROOM] {
-    let mut x = [0.0f32; ROOM];
-    s.fill(first, &mut x);
+// Replaces sample `at`, where there is one and `replaced` says so.
+fn replace(x: &mut [f32], replaced: bool, at: u64, word: u64) {
     if replaced {
-        if at < ROOM as u64 {
+        if at < x.len() as u64 {
             x[at as usize] = bits::value32(word);
         }
     }
-    x
-}
-
-// The first k and b samples of the strands as a frame.
-fn cut(
-    mut run: Run,
-    name: &[u8],
-    buffer: &mut [u8; BUFFER],
-    key: &[f32],
-    bed: &[f32],
-    k: usize,
-    b: usize,
-) -> Run {
-    if k <= key.len() {
-        if b <= bed.len() {
-            return step(run, name, buffer, &key[..k], &bed[..b], true);
-        }
-    }
-    let r = run.r;
-    run.r = r.stop();
-    run
 }
 
 // One frame of any lengths, in which a sample may be replaced.
-fn odd(mut run: Run, name: &[u8], buffer: &mut [u8; BUFFER]) -> Run {
-    let mut w = [0u64; 12];
+fn odd(mut run: Run, name: &[u8], buffer: &mut [u8; BUFFER], several: bool) -> Run {
+    let mut signals = [0u64; SIGNALS];
+    let mut w = [0u64; 6];
     let before = run.r;
-    run.r = before.words(buffer, &mut w);
-    let key_signal = Signal::new(w[0], w[1], w[2]);
-    let bed_signal = Signal::new(w[3], w[4], w[5]);
-    let key = strand(key_signal, w[6], w[9] == 0, w[10], w[11]);
-    let bed = strand(bed_signal, w[6], w[9] == 1, w[10], w[11]);
-    cut(run, name, buffer, &key, &bed, w[7] as usize, w[8] as usize)
+    let read = strands::read(before, buffer, several, &mut signals);
+    run.r = read.words(buffer, &mut w);
+    let mut key = [0.0f32; ROOM];
+    let key_signal = strands::signal(&signals, 0);
+    key_signal.fill(w[0], &mut key);
+    let mut bed = strands::bed(&signals, w[0], BED);
+    replace(&mut key, w[3] == 0, w[4], w[5]);
+    replace(&mut bed, w[3] == 1, w[4], w[5]);
+    cut(
+        run,
+        name,
+        buffer,
+        &key,
+        &bed,
+        w[1] as usize,
+        w[2] as usize,
+        true,
+    )
 }
 
-// The code of a settings call or of a reset.
+// The code of a settings call, of a reset or of a layout call.
 fn changed(before: Run, name: &[u8], buffer: &mut [u8; BUFFER], c: Changed) -> Run {
     let r = before.r;
     let next = c.chain;
@@ -221,6 +246,21 @@ fn reset(mut run: Run, name: &[u8], buffer: &mut [u8; BUFFER]) -> Run {
     changed(run, name, buffer, chain.reset(w[0]))
 }
 
+fn layout(mut run: Run, name: &[u8], buffer: &mut [u8; BUFFER]) -> Run {
+    let mut count = [0u64; 1];
+    let mut places = [0u64; 24];
+    let before = run.r;
+    let read = before.words(buffer, &mut count);
+    run.r = read.words(buffer, &mut places);
+    let chain = run.chain;
+    changed(
+        run,
+        name,
+        buffer,
+        chain.layout(words::layout(count[0], &places)),
+    )
+}
+
 // A list begins with a fresh chain.
 fn fresh(r: Replay) -> Run {
     Run {
@@ -241,10 +281,13 @@ fn next_call(mut run: Run, name: &[u8], buffer: &mut [u8; BUFFER]) -> Run {
     }
     match call[0] {
         0 => fresh(r),
-        1 => frames(run, name, buffer),
-        2 => odd(run, name, buffer),
+        1 => frames(run, name, buffer, false),
+        2 => odd(run, name, buffer, false),
         3 => set(run, name, buffer),
         4 => reset(run, name, buffer),
+        5 => layout(run, name, buffer),
+        6 => frames(run, name, buffer, true),
+        7 => odd(run, name, buffer, true),
         _ => {
             run.r = r.stop();
             run

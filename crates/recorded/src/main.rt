@@ -13,6 +13,7 @@ mod print;
 mod replay;
 mod signal;
 mod signals;
+mod strands;
 
 use lists::Module;
 
@@ -24,4 +25,5 @@ fn main() {
     lists::replay(Module::Decision, b"decision", b" lists, ", b" frames, ");
     lists::replay(Module::Ducker, b"ducker", b" lists, ", b" frames, ");
     frames::replay(b"frames");
+    frames::replay(b"surround");
 }

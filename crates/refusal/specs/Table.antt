@@ -4,7 +4,7 @@ use mathlib.Core.Bool.{Bool, cond}
 use mathlib.Core.List.{List, [], _∷_}
 use Prim.Native.Nat.{ℕ}
 use Rattle.refusal.specs.declared.Refusal.{Refusal}
-use Rattle.refusal.specs.declared.Refusal.the-variants.{ShortFrame, BadSample, BadSetting, Runaway, CounterFull, WrongLength, BadCheck, ForeignImage, NoStrand}
+use Rattle.refusal.specs.declared.Refusal.the-variants.{ShortFrame, BadSample, BadSetting, Runaway, CounterFull, WrongLength, BadCheck, ForeignImage, NoStrand, BadLayout}
 
 abbrev pub numberOf : Refusal → ℕ
 numberOf ShortFrame = 1
@@ -16,6 +16,7 @@ numberOf WrongLength = 6
 numberOf BadCheck = 7
 numberOf ForeignImage = 8
 numberOf NoStrand = 9
+numberOf BadLayout = 10
 
 -- n is the number of a refusal
 abbrev pub InTable : ℕ → Type 0

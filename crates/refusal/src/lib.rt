@@ -13,9 +13,10 @@ pub enum Refusal {
     BadCheck,
     ForeignImage,
     NoStrand,
+    BadLayout,
 }
 
-// The number of a refusal, 1 to 9.
+// The number of a refusal, 1 to 10.
 pub fn number(refusal: Refusal) -> u64
     ensures { λ r. ⌜ r ≡ numberOf refusal ⌝ }
 {
@@ -29,5 +30,6 @@ pub fn number(refusal: Refusal) -> u64
         Refusal::BadCheck => 7,
         Refusal::ForeignImage => 8,
         Refusal::NoStrand => 9,
+        Refusal::BadLayout => 10,
     }
 }

@@ -60,7 +60,7 @@ pub fn frame(outcome: Outcome) -> bool {
     }
 }
 
-// The same for a settings call, a reset or a restore.
+// The same for a settings call, a reset, a layout call or a restore.
 pub fn verdict(verdict: Verdict) -> bool {
     match verdict {
         Verdict::Passed => code(0),
@@ -68,11 +68,11 @@ pub fn verdict(verdict: Verdict) -> bool {
     }
 }
 
-// The image is the first 10,752 bytes.
+// The image is the first 11,264 bytes.
 fn image(lent: &[u8; IMAGE]) -> bool {
     let whole: &[u8] = lent;
     if code(0) {
-        return io::write_all(STDOUT_FILENO, &whole[..10752]);
+        return io::write_all(STDOUT_FILENO, &whole[..image::BYTES]);
     }
     false
 }

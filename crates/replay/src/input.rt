@@ -8,20 +8,24 @@ use blocks::little_endian::read4;
 use blocks::little_endian::read8;
 use libc::STDIN_FILENO;
 
-// Samples that are kept of a strand: a frame's, and one more.
-pub const STRAND: usize = 481;
+// Samples that are kept of a strand: a frame's of eight channels, and one more.
+pub const STRAND: usize = 3841;
 
 // Their bytes.
-const BYTES: usize = 1924;
+const BYTES: usize = 15364;
 
 // Bytes that are kept of an image: an image's, and one more.
-pub const IMAGE: usize = 10753;
+pub const IMAGE: usize = image::BYTES + 1;
+
+// Words of the places that are kept of a layout: those of eight channels.
+pub const PLACES: usize = 24;
 
 // What a call begins with.
 pub enum Letter {
     Frame,
     Settings,
     Reset,
+    Layout,
     Save,
     Restore,
     Unknown,
@@ -30,6 +34,11 @@ pub enum Letter {
 
 pub enum Word {
     Found(u64),
+    End,
+}
+
+pub enum Count {
+    Found(u32),
     End,
 }
 
@@ -46,6 +55,7 @@ pub fn next_letter() -> Letter {
             b'F' => Letter::Frame,
             b'S' => Letter::Settings,
             b'R' => Letter::Reset,
+            b'B' => Letter::Layout,
             b'V' => Letter::Save,
             b'L' => Letter::Restore,
             _ => Letter::Unknown,
@@ -55,12 +65,12 @@ pub fn next_letter() -> Letter {
 }
 
 // The next number of 32 bits.
-pub fn next_count() -> Word {
+pub fn next_count() -> Count {
     let mut b = [0u8; 4];
     if fill(&mut b) {
-        return Word::Found(read4(&b, 0) as u64);
+        return Count::Found(read4(&b, 0));
     }
-    Word::End
+    Count::End
 }
 
 // The next number of 64 bits.
@@ -86,17 +96,39 @@ pub fn next_words(to: &mut [u64; 12]) -> bool {
     true
 }
 
+// The next `count` times three words, of which those of the first eight channels are kept, and whether the input had them.
+pub fn next_places(count: u32, to: &mut [u64; PLACES]) -> bool {
+    let words = 3 * count as u64;
+    let mut k: u64 = 0;
+    while k < words {
+        let w = next_word();
+        let Word::Found(n) = w else {
+            return false;
+        };
+        if k < 24 {
+            to[k as usize] = n;
+            k += 1;
+        } else {
+            k += 1;
+        }
+    }
+    true
+}
+
 // Sample k.
 fn sample(b: &[u8; BYTES], k: usize) -> f32
-    requires { ⌜ k < 481 ⌝ }
+    requires { ⌜ k < 3841 ⌝ }
     ensures { λ r. ⌜ r ≡ ofBits binary32 (word4 (now (b .entry)) (4 * k)) ⌝ }
 {
     float::from_bits32(read4(b, 4 * k))
 }
 
-fn samples(b: &[u8; BYTES], to: &mut [f32; STRAND]) {
+// The first n samples.
+fn samples(b: &[u8; BYTES], n: usize, to: &mut [f32; STRAND])
+    requires { ⌜ n ≤ 3841 ⌝ }
+{
     let mut k: usize = 0;
-    while k < STRAND {
+    while k < n {
         to[k] = sample(b, k);
         k += 1;
     }
@@ -140,7 +172,7 @@ pub fn next_strand(count: u64, to: &mut [f32; STRAND]) -> bool
     let mut b = [0u8; BYTES];
     let n = kept(count, STRAND);
     if part(&mut b, 4 * n) {
-        samples(&b, to);
+        samples(&b, n, to);
         return skip(&mut b, 4 * (count - n as u64));
     }
     false

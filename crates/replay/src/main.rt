@@ -1,14 +1,15 @@
 // Runs the calls of standard input on one chain, from fresh, and writes each answer to standard output before it reads on. Numbers are
 // little-endian; a word has 64 bits.
 //
-// Calls: F, a frame: two counts of 32 bits, then that many samples, f32, of the key and of the bed. S, settings: 12 words in the image's order,
-// of which words 7 and 12 are flags, 0 or not. R, a reset: one word, the strand. V, a save: a count of 32 bits, the bytes of the lent buffer. L, a
-// restore: a count of 32 bits, then that many bytes.
+// Calls: F, a frame: two counts of 32 bits, then that many samples, f32, of the key and of the bed, the bed's channels one after the other. S,
+// settings: 12 words in the image's order, of which words 7 and 12 are flags, 0 or not. R, a reset: one word, the strand. B, a layout: a count of 32
+// bits, then that many times three words: azimuth and elevation in degrees, in two's complement, and the LFE flag, 0 or 1. V, a save: a count of 32
+// bits, the bytes of the lent buffer. L, a restore: a count of 32 bits, then that many bytes.
 //
-// Answers: one word, 0 or the refusal's number. After a save's 0 comes the image, 10,752 bytes. After a frame's 0 come 41 words: state (0 release, 1 duck, 2 interview, 3 overvoice), the
-// unrounded reduction, reduction_db, slow_db, mid_db, fast_db, target_lu; ratio_lu, dialogue_lufs and bed_lufs, each as flag and value; then for
-// key and bed active, probability, speech_level as flag and value, level_dbfs, momentary_lufs, gated, short_term_lufs, onsets, offsets,
-// over_floor_db, modulation_db, voicing, anti. A float is its bits, and an absent value 0.
+// Answers: one word, 0 or the refusal's number. After a save's 0 comes the image, 11,264 bytes. After a frame's 0 come 41 words: state (0 release,
+// 1 duck, 2 interview, 3 overvoice), the unrounded reduction, reduction_db, slow_db, mid_db, fast_db, target_lu; ratio_lu, dialogue_lufs and
+// bed_lufs, each as flag and value; then for key and bed active, probability, speech_level as flag and value, level_dbfs, momentary_lufs, gated,
+// short_term_lufs, onsets, offsets, over_floor_db, modulation_db, voicing, anti. A float is its bits, and an absent value 0.
 mod answers;
 mod input;
 
@@ -18,8 +19,10 @@ use chain::Chain;
 use chain::Changed;
 use chain::Framed;
 use chain::Verdict;
+use input::Count;
 use input::IMAGE;
 use input::Letter;
+use input::PLACES;
 use input::STRAND;
 use input::Word;
 use libc::STDERR_FILENO;
@@ -62,7 +65,7 @@ fn run(
     bed: &[f32; STRAND],
     bed_count: usize,
 ) -> Framed
-    requires { ⌜ («key_count» ≤ 481) × («bed_count» ≤ 481) ⌝ }
+    requires { ⌜ («key_count» ≤ 3841) × («bed_count» ≤ 3841) ⌝ }
 {
     let k: &[f32] = key;
     let b: &[f32] = bed;
@@ -100,7 +103,7 @@ fn short(chain: Chain) -> Step {
     }
 }
 
-// F. Of a strand of more than 481 samples 481 are kept, and the chain refuses these alike.
+// F. Of a strand of more than 3,841 samples 3,841 are kept, and the chain refuses these alike.
 fn frame(chain: Chain) -> Step {
     let mut key = [0.0f32; STRAND];
     let mut bed = [0.0f32; STRAND];
@@ -118,7 +121,7 @@ fn frame(chain: Chain) -> Step {
     short(chain)
 }
 
-// The answer to a settings call, a reset or a restore.
+// The answer to a settings call, a reset, a layout call or a restore.
 fn changed(c: Changed) -> Step {
     let verdict = c.verdict;
     let next = c.chain;
@@ -146,6 +149,19 @@ fn reset(chain: Chain) -> Step {
     changed(freightpetal::reset(chain, strand))
 }
 
+// B. Of more than eight channels the places of eight are kept, and the chain refuses the layout by its count.
+fn layout(chain: Chain) -> Step {
+    let c = input::next_count();
+    let Count::Found(count) = c else {
+        return short(chain);
+    };
+    let mut places = [0u64; PLACES];
+    if input::next_places(count, &mut places) {
+        return changed(freightpetal::layout(chain, words::layout(count as u64, &places)));
+    }
+    short(chain)
+}
+
 // The first n bytes are lent for a save.
 fn save_in(chain: Chain, lent: &mut [u8], n: usize) -> Verdict
     requires { ⌜ n ≤ length (now lent) ⌝ }
@@ -153,14 +169,14 @@ fn save_in(chain: Chain, lent: &mut [u8], n: usize) -> Verdict
     freightpetal::save(chain, &mut lent[..n])
 }
 
-// V. Of a buffer of more than 10,753 bytes 10,753 are lent, and both are refused alike.
+// V. Of a buffer of more than 11,265 bytes 11,265 are lent, and both are refused alike.
 fn save(chain: Chain) -> Step {
-    let w = input::next_count();
-    let Word::Found(count) = w else {
+    let c = input::next_count();
+    let Count::Found(count) = c else {
         return short(chain);
     };
     let mut lent = [0u8; IMAGE];
-    let verdict = save_in(chain, &mut lent, input::kept(count, IMAGE));
+    let verdict = save_in(chain, &mut lent, input::kept(count as u64, IMAGE));
     Step {
         chain,
         ending: ended(answers::saved(verdict, &lent)),
@@ -169,21 +185,21 @@ fn save(chain: Chain) -> Step {
 
 // The first n bytes are restored.
 fn restore_of(chain: Chain, bytes: &[u8; IMAGE], n: usize) -> Changed
-    requires { ⌜ n ≤ 10753 ⌝ }
+    requires { ⌜ n ≤ 11265 ⌝ }
 {
     let b: &[u8] = bytes;
     freightpetal::restore(chain, &b[..n])
 }
 
-// L. Of more than 10,753 bytes 10,753 are kept, and the restore refuses both alike.
+// L. Of more than 11,265 bytes 11,265 are kept, and the restore refuses both alike.
 fn restore(chain: Chain) -> Step {
-    let w = input::next_count();
-    let Word::Found(count) = w else {
+    let c = input::next_count();
+    let Count::Found(count) = c else {
         return short(chain);
     };
     let mut bytes = [0u8; IMAGE];
-    if input::next_image(count, &mut bytes) {
-        return changed(restore_of(chain, &bytes, input::kept(count, IMAGE)));
+    if input::next_image(count as u64, &mut bytes) {
+        return changed(restore_of(chain, &bytes, input::kept(count as u64, IMAGE)));
     }
     short(chain)
 }
@@ -195,6 +211,7 @@ fn call(chain: Chain) -> Step {
         Letter::Frame => frame(chain),
         Letter::Settings => set(chain),
         Letter::Reset => reset(chain),
+        Letter::Layout => layout(chain),
         Letter::Save => save(chain),
         Letter::Restore => restore(chain),
         Letter::Unknown => Step {
@@ -246,7 +263,11 @@ fn main() {
     match ending {
         Ending::Answered => {}
         Ending::NoCall => {}
-        Ending::Unknown => complain(b"replay: call ", s.call, b" is none of F, S, R, V and L\n"),
+        Ending::Unknown => complain(
+            b"replay: call ",
+            s.call,
+            b" is none of F, S, R, B, V and L\n",
+        ),
         Ending::Short => complain(b"replay: the input ends within call ", s.call, b"\n"),
         Ending::Unwritten => complain(
             b"replay: the answer to call ",

@@ -1,5 +1,5 @@
 -- Every number of a valid chain is finite.
-use Prim.Native.Nat.{ℕ, suc}
+use Prim.Native.Nat.{ℕ, suc, _-_}
 use mathlib.Core.Path.{_≡_, refl, subst, sym}
 use mathlib.Core.Bool.{Bool, true, false}
 use mathlib.Core.List.{List, [], _∷_}
@@ -14,6 +14,11 @@ use Rattle.float.specs.Arithmetic.{zero64}
 use Rattle.float.specs.AllFinite.{allFinite}
 use Rattle.level.specs.declared.Level.{Level}
 use Rattle.level.specs.Valid as level
+use Rattle.channels.specs.declared.Channel.{Channel}
+use Rattle.channels.specs.declared.Surround.{Surround}
+use Rattle.channels.specs.Channels.{resting}
+use Rattle.channels.specs.Surround.{otherChannels}
+use Rattle.channels.specs.Valid.{ChannelValid, SurroundValid}
 use Rattle.detector.specs.declared.FeatureDetector.{FeatureDetector}
 use Rattle.detector.specs.declared.floor.Smoothed.{Smoothed}
 use Rattle.detector.specs.declared.floor.Smoothed.the-variants as smoothed
@@ -32,7 +37,7 @@ use Rattle.settings.specs.Settings.{imageRanges}
 use Rattle.chain.specs.declared.Chain.{Chain}
 use Rattle.chain.specs.Valid.{Valid}
 use Rattle.settings.specs.Valid.{StrandSettingsValid, SettingsValid}
-use Rattle.chain.specs.Numbers.{ofStrandSettings, ofSettings, ofLoops, ofLevel, ofSmoothed, ofDetector, ofPower, ofStrand, numbersOf}
+use Rattle.chain.specs.Numbers.{ofStrandSettings, ofSettings, ofLoops, ofLevel, ofSmoothed, ofDetector, ofPower, ofStrand, ofChannel, ofChannels, numbersOf}
 
 -- ---- lists
 
@@ -41,12 +46,16 @@ each blank [] h = none
 each blank (x ∷ xs) h = h 0 more each blank xs (λ k. h (suc k))
 
 -- values, and blanks after them
-counted : (f : Format) (blank : Float) (n count : ℕ) (places : List Float) → T (finite blank) → Counted (Num f) blank n count places → Alls places
-counted f blank n count places b c = each blank places (λ k. go k (ltb k count) refl)
+counted-each : {A : Type 0} {Good : A → Type 0} (P : A → Type 0) (blank : A) (n count : ℕ) (places : List A) → ((x : A) → Good x → P x) → P blank
+    → Counted Good blank n count places → (k : ℕ) → P (getD places k blank)
+counted-each P blank n count places f b c k = go (ltb k count) refl
   where
-    go : (k : ℕ) (t : Bool) → ltb k count ≡ t → T (finite (getD places k blank))
-    go k true e = c .good k (ltb-true k count e) .0
-    go k false e = subst (λ (x : Float). T (finite x)) (sym (c .rest k (ltb-false k count e))) b
+    go : (t : Bool) → ltb k count ≡ t → P (getD places k blank)
+    go true e = f _ (c .good k (ltb-true k count e))
+    go false e = subst P (sym (c .rest k (ltb-false k count e))) b
+
+counted : (f : Format) (blank : Float) (n count : ℕ) (places : List Float) → T (finite blank) → Counted (Num f) blank n count places → Alls places
+counted f blank n count places b c = each blank places (counted-each (λ (x : Float). T (finite x)) blank n count places (λ x g. g .0) b c)
 
 pub zero-finite : T (finite zero64)
 unfolding ofBits
@@ -102,6 +111,21 @@ of-settings s v =
 pub of-loops : (l : Loops) → LoopsStored l → Alls (ofLoops l)
 of-loops l v = v .slow .0 more v .mid .0 more v .fast .0 more v .hold .0 more none
 
+-- the bed's channels after the first, those at rest too
+of-channel : (c : Channel) → ChannelValid c → Alls (ofChannel c)
+of-channel c v = v .shelf .z1 .0 more v .shelf .z2 .0 more v .«high_pass» .z1 .0 more v .«high_pass» .z2 .0 more v .fast .0 more none
+
+of-resting : Alls (ofChannel resting)
+of-resting = zero-finite more zero-finite more zero-finite more zero-finite more zero-finite more none
+
+of-channels : (cs : List Channel) → ((k : ℕ) → Alls (ofChannel (getD cs k resting))) → Alls (ofChannels cs)
+of-channels [] h = none
+of-channels (c ∷ cs) h = h 0 and of-channels cs (λ k. h (suc k))
+
+pub of-surround : (s : Surround) → SurroundValid s → Alls (ofChannels (s .others))
+of-surround s v =
+    of-channels (s .others) (counted-each (λ (c : Channel). Alls (ofChannel c)) resting otherChannels (s .layout .count - 1) (s .others) of-channel of-resting (v .others))
+
 pub valid-finite : (c : Chain) → Valid c → T (allFinite (numbersOf c))
 unfolding numbersOf
-valid-finite c v = all-finite (of-settings (c .settings) (v .settings) and of-strand (c .key) (v .key) and of-strand (c .bed) (v .bed) and of-loops (c .loops) (v .loops))
+valid-finite c v = all-finite (of-settings (c .settings) (v .settings) and of-strand (c .key) (v .key) and of-strand (c .bed) (v .bed) and of-loops (c .loops) (v .loops) and of-surround (c .surround) (v .surround))

@@ -1,37 +1,39 @@
--- The three functions do what the specification's rules say, call by call: demands' laws of events.
+-- The four functions do what the specification's rules say, call by call: demands' laws of events.
 use mathlib.Core.Path.{_≡_, refl}
 use mathlib.Core.Bool.{Bool, true, false, not, cond, _&&_, _||_}
 use mathlib.Core.List.{List, [], _∷_}
 use lib.Dec.{eqb}
 use lib.ListN.{length}
 use native.Mathlib.Omega.{arith}
-use Rattle.refusal.specs.declared.Refusal.the-variants.{ShortFrame, BadSample, BadSetting, Runaway, CounterFull, NoStrand}
+use Rattle.refusal.specs.declared.Refusal.the-variants.{ShortFrame, BadSample, BadSetting, Runaway, CounterFull, NoStrand, BadLayout}
 use Rattle.refusal.specs.Table.{InTable, Row, _means_, firstNumber}
 use Rattle.demands.specs.Calls.{answer, refusal, passed, gets}
 use Rattle.demands.specs.Laws.{EventLaws}
 use Rattle.demands.proofs.Table.{first-in-table}
 use Rattle.level.specs.Bs1770.{frameLength}
 use Rattle.float.specs.AllFinite.{allFinite}
-use Rattle.vad.specs.Strand as strand
+use Rattle.layout.specs.declared.Layout.{Layout}
+use Rattle.layout.specs.Layout.{layoutWithin}
 use Rattle.chain.specs.declared.Chain.{Chain}
 use Rattle.chain.specs.declared.Worked.{Worked}
 use Rattle.chain.specs.declared.Framed.{Framed}
 use Rattle.chain.specs.declared.Changed.{Changed}
 use Rattle.settings.specs.declared.Settings.{Settings}
 use Rattle.settings.specs.Settings.{callRanges, outsideSettings, storedOf}
-use Rattle.chain.specs.Chain.{workOf, refusedOf, keptOf, answerOf, passedOf, finiteIn, fullIn, judgedOf, frameOf, changed, unchanged, withSettings, withKey, withBed, setOf, resetOf}
+use Rattle.chain.specs.Chain.{workOf, refusedOf, keptOf, answerOf, passedOf, finiteIn, fullIn, judgedOf, bedLength, frameOf, changed, unchanged, withSettings, keyAnew, bedAnew, laidOut, setOf, resetOf, layoutOf}
 use Rattle.chain.specs.Valid.{Valid}
-use Rattle.rules.specs.Rules.{Event, frame, settings, reset, shown, noted, frameRows, settingsRows, resetRows, frameNumber, settingsNumber, resetNumber, refuses, next, answers, rules, afterFrame, afterChange, port}
+use Rattle.rules.specs.Rules.{Event, frame, settings, reset, layout, shown, noted, frameRows, settingsRows, resetRows, layoutRows, frameNumber, settingsNumber, resetNumber, layoutNumber, refuses, next, answers, rules, afterFrame, afterChange, port}
 use Rattle.rules.proofs.AllFinite.{valid-finite}
 use Rattle.rules.proofs.Valid.{fresh-valid, next-valid}
 
 -- ---- the numbers are the table's
 
 pub number : (c : Chain) (e : Event) → (refuses c e ≡ 0 → ⊥) → InTable (refuses c e)
-unfolding frameNumber settingsNumber resetNumber
+unfolding frameNumber settingsNumber resetNumber layoutNumber
 number c (frame key bed) n = first-in-table (frameRows c key bed) n
 number c (settings a) n = first-in-table (settingsRows (a .values)) n
 number c (reset k) n = first-in-table (resetRows k) n
+number c (layout l) n = first-in-table (layoutRows l) n
 
 -- ---- a frame, by its tests: lengths, samples, finite, full
 
@@ -66,7 +68,7 @@ module _ (c : Chain) (w : Worked) where
   frame-passes true true true true true true z = absurd (omega arith)
   frame-passes true true true true true false z = refl
 
--- ---- a settings call and a reset
+-- ---- a settings call, a reset and a layout call
 
 module _ (c : Chain) where
   abbrev setBy : Bool → Settings → Changed
@@ -82,14 +84,8 @@ module _ (c : Chain) where
   set-passes true s z = absurd (omega arith)
   set-passes false s z = refl
 
-  abbrev keyAnew : Chain
-  keyAnew = withKey c (strand.resetOf (c .key))
-
-  abbrev bedAnew : Chain
-  bedAnew = withBed c (strand.resetOf (c .bed))
-
   abbrev resetBy : Bool → Bool → Changed
-  resetBy x y = cond x (changed keyAnew) (cond y (changed bedAnew) (unchanged c NoStrand))
+  resetBy x y = cond x (changed (keyAnew c)) (cond y (changed (bedAnew c)) (unchanged c NoStrand))
 
   reset-refused : (x y : Bool) → (firstNumber (not (x || y) means NoStrand ∷ []) ≡ 0 → ⊥)
       → afterChange (resetBy x y) ≡ gets (refusal (firstNumber (not (x || y) means NoStrand ∷ []))) [] c
@@ -98,28 +94,43 @@ module _ (c : Chain) where
   reset-refused false false n = refl
 
   reset-passes : (x y : Bool) → firstNumber (not (x || y) means NoStrand ∷ []) ≡ 0
-      → afterChange (resetBy x y) ≡ gets (passed (answer noted)) [] (cond x keyAnew bedAnew)
+      → afterChange (resetBy x y) ≡ gets (passed (answer noted)) [] (cond x (keyAnew c) (bedAnew c))
   reset-passes true y z = refl
   reset-passes false true z = refl
   reset-passes false false z = absurd (omega arith)
 
+  abbrev layoutBy : Bool → Layout → Changed
+  layoutBy w l = cond w (changed (laidOut c l)) (unchanged c BadLayout)
+
+  layout-refused : (w : Bool) (l : Layout) → (firstNumber (not w means BadLayout ∷ []) ≡ 0 → ⊥)
+      → afterChange (layoutBy w l) ≡ gets (refusal (firstNumber (not w means BadLayout ∷ []))) [] c
+  layout-refused true l n = absurd (n refl)
+  layout-refused false l n = refl
+
+  layout-passes : (w : Bool) (l : Layout) → firstNumber (not w means BadLayout ∷ []) ≡ 0
+      → afterChange (layoutBy w l) ≡ gets (passed (answer noted)) [] (laidOut c l)
+  layout-passes true l z = refl
+  layout-passes false l z = absurd (omega arith)
+
 -- ---- each call
 
 pub refused : (c : Chain) (e : Event) → (refuses c e ≡ 0 → ⊥) → port c e ≡ gets (refusal (refuses c e)) [] c
-unfolding frameOf judgedOf setOf resetOf frameNumber settingsNumber resetNumber
+unfolding frameOf judgedOf setOf resetOf layoutOf frameNumber settingsNumber resetNumber layoutNumber
 refused c (frame key bed) n =
     let w = workOf c key bed in
-    frame-refused c w (eqb (length key) frameLength) (eqb (length bed) frameLength) (allFinite key) (allFinite bed) (finiteIn w) (fullIn w) n
+    frame-refused c w (eqb (length key) frameLength) (eqb (length bed) (bedLength c)) (allFinite key) (allFinite bed) (finiteIn w) (fullIn w) n
 refused c (settings a) n = set-refused c (outsideSettings callRanges (a .values)) (a .values) n
 refused c (reset k) n = reset-refused c (eqb k 0) (eqb k 1) n
+refused c (layout l) n = layout-refused c (layoutWithin l) l n
 
 pub passes : (c : Chain) (e : Event) → refuses c e ≡ 0 → port c e ≡ gets (passed (answer (answers c e))) [] (next c e)
-unfolding frameOf judgedOf setOf resetOf frameNumber settingsNumber resetNumber
+unfolding frameOf judgedOf setOf resetOf layoutOf frameNumber settingsNumber resetNumber layoutNumber
 passes c (frame key bed) z =
     let w = workOf c key bed in
-    frame-passes c w (eqb (length key) frameLength) (eqb (length bed) frameLength) (allFinite key) (allFinite bed) (finiteIn w) (fullIn w) z
+    frame-passes c w (eqb (length key) frameLength) (eqb (length bed) (bedLength c)) (allFinite key) (allFinite bed) (finiteIn w) (fullIn w) z
 passes c (settings a) z = set-passes c (outsideSettings callRanges (a .values)) (a .values) z
 passes c (reset k) z = reset-passes c (eqb k 0) (eqb k 1) z
+passes c (layout l) z = layout-passes c (layoutWithin l) l z
 
 abbrev pub laws : EventLaws rules port
 laws = record {

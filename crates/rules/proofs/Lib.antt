@@ -1,9 +1,11 @@
 pub mod Accepted
 pub mod Valid
 pub mod AllFinite
+pub mod Beds
 pub mod Laws
 pub mod AgreesRust
 pub mod RustState
 pub mod AgreesLoudness
 pub mod ReadsLoudness
+pub mod Mono
 pub mod Promise

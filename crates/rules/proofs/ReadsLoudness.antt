@@ -19,6 +19,7 @@ heard (h ▹ e) v =
 pub reads-bs1770 : ReadsBs1770
 reads-bs1770 h key bed v =
     let c = stateOf rules h in
+    let ok = heard h (v .0) .0 in
     let l = heard h (v .0) .1 in
     let a = accepted c key bed (v .1) in
-    record { of-key = key-reads c h l key bed a; of-bed = bed-reads c h l key bed a; of-ducker = ducker-given c h l key bed a }
+    record { of-key = key-reads c h ok l key bed a; of-bed = bed-reads c h ok l key bed a; of-ducker = ducker-given c h ok l key bed a }

@@ -1,10 +1,11 @@
 -- A chain that stands for the Rust's is what the Rust's state stores: a valid history is what it holds, and blanks.
-use Prim.Native.Nat.{ℕ}
+use Prim.Native.Nat.{ℕ, suc, _-_}
+use native.Mathlib.Omega.{arith}
 use mathlib.Core.Path.{_≡_, refl, sym, ap, _∙_}
 use mathlib.Core.Bool.{Bool, true, false, cond}
-use mathlib.Core.List.{List}
+use mathlib.Core.List.{List, _∷_}
 use lib.Dec.{eqb}
-use lib.ListN.{length}
+use lib.ListN.{length, getD, take, drop}
 use lib.Ieee.{Float, inf}
 use borrow.Author.Tests.{eqb-true}
 use Rattle.demands.specs.Laws.{Stores}
@@ -15,6 +16,13 @@ use Rattle.float.specs.Arithmetic.{zero64}
 use Rattle.level.specs.declared.Level.{Level}
 use Rattle.level.specs.Deque.{Meter}
 use Rattle.level.specs.Valid as level
+use Rattle.layout.specs.declared.Layout.{Layout}
+use Rattle.channels.specs.declared.Channel.{Channel}
+use Rattle.channels.specs.declared.Surround.{Surround}
+use Rattle.channels.specs.Channels.{resting}
+use Rattle.channels.specs.Surround.{otherChannels, ownOf, levelOf}
+use Rattle.channels.specs.Deque.{Meters, bedMeters}
+use Rattle.channels.specs.Valid.{ChannelValid, SurroundValid}
 use Rattle.detector.specs.declared.floor.Floor.{Floor}
 use Rattle.detector.specs.declared.FeatureDetector.{FeatureDetector}
 use Rattle.detector.specs.Rust.{RustFloor, RustDetector}
@@ -29,7 +37,8 @@ use Rattle.comis.specs.Rust.{AutomixEngine}
 use Rattle.chain.specs.Valid.{Valid}
 use Rattle.rules.specs.Rules.{rules}
 use Rattle.rules.specs.Rust.{rust}
-use Rattle.rules.specs.RustState.{levelStored, floorStored, detectorStored, strandStored, loopsStored, stored}
+use Rattle.rules.specs.RustState.{levelStored, bedLevelStored, floorStored, detectorStored, strandStored, loopsStored, surroundStored, stored}
+use Rattle.rules.proofs.Beds.{channels-valid}
 use Rattle.rules.proofs.AgreesRust.{rust-agrees}
 
 -- ---- a deque: the list xs that a count and its places hold
@@ -96,6 +105,33 @@ strand-stored t r level v a e = λ i. record {
   };
 }
 
+-- ---- the bed's channels: the first stands in the strand's level, the others beside it
+
+module _ (l : Level) (s : Surround) (m : Meters) (v : level.Valid l) (w : SurroundValid s) (e : m ≡ bedMeters l s) where
+  -- as many as the layout says, at least one
+  abbrev rest : List Channel
+  rest = held (s .layout .count - 1) (s .others)
+
+  channels-held : m .channels ≡ ownOf l ∷ rest
+  channels-held =
+      let n : s .layout .count ≡ suc (s .layout .count - 1) = omega (arith, w .layout .some) in
+      ap (λ (m : Meters). m .channels) e ∙ ap (λ (k : ℕ). take k (ownOf l ∷ s .others)) (channels-valid (s .layout) (w .layout) ∙ n)
+
+  frames-held : m .frames ≡ held (l .powers .count) (l .powers .list)
+  frames-held = ap (λ (m : Meters). m .frames) e
+
+  bed-level-stored : l ≡ bedLevelStored m
+  bed-level-stored = λ i.
+      levelOf (ap (λ (cs : List Channel). getD cs 0 resting) (sym channels-held) i)
+      (record { count = deque-count (v .powers) (m .frames) frames-held i; list = deque-places (v .powers) (m .frames) frames-held i })
+
+  surround-stored : s ≡ surroundStored (s .layout) m
+  surround-stored = λ i. record {
+    layout = s .layout;
+    others = (sym (counted-filled ChannelValid resting otherChannels (s .layout .count - 1) (s .others) (w .others))
+        ∙ ap (λ (cs : List Channel). filled resting otherChannels (drop 1 cs)) (sym channels-held)) i;
+  }
+
 -- ---- the chain
 
 pub rust-stores : Stores rules Valid rust rust-agrees stored
@@ -103,6 +139,7 @@ unfolding stored
 rust-stores c m v l = λ i. record {
   settings = sym (l .settings) i;
   key = strand-stored (c .key) (m .key) levelStored (v .key) (l .key) (level-stored (c .key .level) (m .key .level) (v .key .level) (l .key .level)) i;
-  bed = strand-stored (c .bed) (m .bed) levelStored (v .bed) (l .bed) (level-stored (c .bed .level) (m .bed .level) (v .bed .level) (l .bed .level)) i;
+  bed = strand-stored (c .bed) (m .bed) bedLevelStored (v .bed) (l .bed) (bed-level-stored (c .bed .level) (c .surround) (m .bed .level) (v .bed .level) (v .surround) (l .bed .level)) i;
   loops = ap (λ (e : AutomixEngine). loopsStored (e .loops)) (sym (l .ducker .engine)) i;
+  surround = (surround-stored (c .bed .level) (c .surround) (m .bed .level) (v .bed .level) (v .surround) (l .bed .level) ∙ ap (λ (x : Layout). surroundStored x (m .bed .level)) (sym (l .layout))) i;
 }

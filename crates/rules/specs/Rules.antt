@@ -1,17 +1,18 @@
--- The specification's rules for frames, settings calls and resets, and the port: what the three functions do, as their contracts say it.
+-- The specification's rules for frames, settings calls, resets and layout calls, and the port: what the four functions do, as their contracts say it.
 use Prim.Native.Nat.{ℕ}
 use mathlib.Core.Bool.{Bool, cond, not, _||_}
 use mathlib.Core.List.{List, [], _∷_}
 use lib.Dec.{T, eqb}
 use lib.ListN.{length}
 use lib.Ieee.{Float, binary64, fits}
-use Rattle.refusal.specs.declared.Refusal.the-variants.{ShortFrame, BadSample, BadSetting, Runaway, CounterFull, NoStrand}
+use Rattle.refusal.specs.declared.Refusal.the-variants.{ShortFrame, BadSample, BadSetting, Runaway, CounterFull, NoStrand, BadLayout}
 use Rattle.refusal.specs.Table.{numberOf, Row, _means_, firstNumber}
 use Rattle.demands.specs.Calls as calls
 use Rattle.level.specs.Bs1770.{frameLength}
 use Rattle.float.specs.AllFinite.{allFinite}
+use Rattle.layout.specs.declared.Layout.{Layout}
+use Rattle.layout.specs.Layout.{layoutWithin}
 use Rattle.vad.specs.declared.VadSettings.{VadSettings}
-use Rattle.vad.specs.Strand as strand
 use Rattle.ratio.specs.declared.Duck.{Duck}
 use Rattle.settings.specs.declared.Settings.{Settings}
 use Rattle.chain.specs.declared.Chain.{Chain}
@@ -24,7 +25,7 @@ use Rattle.chain.specs.declared.Verdict.the-variants as verdict
 use Rattle.chain.specs.declared.Changed.{Changed}
 use Rattle.settings.specs.Settings.{callRanges, outsideSettings, storedOf}
 use Rattle.chain.specs.Numbers.{numbersOf}
-use Rattle.chain.specs.Chain.{freshOf, workOf, keptOf, answerOf, finiteIn, fullIn, withSettings, withKey, withBed, frameOf, setOf, resetOf}
+use Rattle.chain.specs.Chain.{freshOf, workOf, keptOf, answerOf, finiteIn, fullIn, bedLength, withSettings, keyAnew, bedAnew, laidOut, frameOf, setOf, resetOf, layoutOf}
 
 -- ---- what may be sent
 
@@ -42,22 +43,23 @@ pub record Asked : Type 0 where
   pub bed : HeldStrand (values .bed)
   pub duck : HeldDuck (values .duck)
 
--- a frame's samples are any floats in any number, and a reset's strand any number
+-- a frame's samples are any floats in any number, a reset's strand is any number, and a layout's words are any numbers
 pub data Event : Type 0 where
   frame : List Float → List Float → Event  -- key, bed
   settings : Asked → Event
   reset : ℕ → Event
+  layout : Layout → Event
 
--- a frame is answered; of a settings call or a reset it is known that it passed
+-- a frame is answered; of any other call it is known that it passed
 pub data Answered : Type 0 where
   shown : Answer → Answered
   noted : Answered
 
 -- ---- the table, over both strands together
 
--- a strand's slice isn't 480 samples
-abbrev pub shortFrame : List Float → List Float → Bool
-shortFrame key bed = not (eqb (length key) frameLength) || not (eqb (length bed) frameLength)
+-- the key isn't 480 samples, or the bed isn't 480 samples a channel
+abbrev pub shortFrame : Chain → List Float → List Float → Bool
+shortFrame c key bed = not (eqb (length key) frameLength) || not (eqb (length bed) (bedLength c))
 
 -- a sample is infinite or not a number
 abbrev pub badSample : List Float → List Float → Bool
@@ -66,7 +68,7 @@ badSample key bed = not (allFinite key) || not (allFinite bed)
 -- a frame is tested in the order 1, 2, 4, 5
 abbrev pub frameRows : Chain → List Float → List Float → List Row
 frameRows c key bed =
-    shortFrame key bed means ShortFrame
+    shortFrame c key bed means ShortFrame
     ∷ badSample key bed means BadSample
     ∷ not (finiteIn (workOf c key bed)) means Runaway
     ∷ fullIn (workOf c key bed) means CounterFull
@@ -79,6 +81,10 @@ settingsRows s = outsideSettings callRanges s means BadSetting ∷ []
 abbrev pub resetRows : ℕ → List Row
 resetRows n = not (eqb n 0 || eqb n 1) means NoStrand ∷ []
 
+-- a layout outside the ranges
+abbrev pub layoutRows : Layout → List Row
+layoutRows l = not (layoutWithin l) means BadLayout ∷ []
+
 unfoldable pub frameNumber : Chain → List Float → List Float → ℕ
 frameNumber c key bed = firstNumber (frameRows c key bed)
 
@@ -88,22 +94,28 @@ settingsNumber s = firstNumber (settingsRows s)
 unfoldable pub resetNumber : ℕ → ℕ
 resetNumber n = firstNumber (resetRows n)
 
+unfoldable pub layoutNumber : Layout → ℕ
+layoutNumber l = firstNumber (layoutRows l)
+
 abbrev pub refuses : Chain → Event → ℕ
 refuses c (frame key bed) = frameNumber c key bed
 refuses c (settings a) = settingsNumber (a .values)
 refuses c (reset n) = resetNumber n
+refuses c (layout l) = layoutNumber l
 
 -- ---- what a call that passes makes and answers
 
 abbrev pub next : Chain → Event → Chain
 next c (frame key bed) = keptOf c (workOf c key bed)
 next c (settings a) = withSettings c (storedOf (a .values))
-next c (reset n) = cond (eqb n 0) (withKey c (strand.resetOf (c .key))) (withBed c (strand.resetOf (c .bed)))
+next c (reset n) = cond (eqb n 0) (keyAnew c) (bedAnew c)
+next c (layout l) = laidOut c l
 
 abbrev pub answers : Chain → Event → Answered
 answers c (frame key bed) = shown (answerOf (workOf c key bed))
 answers c (settings a) = noted
 answers c (reset n) = noted
+answers c (layout l) = noted
 
 -- every number that the chain stores
 abbrev pub Finite : Chain → Type 0
@@ -141,3 +153,4 @@ abbrev pub port : calls.Port rules (calls.eventCalls rules)
 port c (frame key bed) = afterFrame (frameOf c key bed)
 port c (settings a) = afterChange (setOf c (a .values))
 port c (reset n) = afterChange (resetOf c n)
+port c (layout l) = afterChange (layoutOf c l)

@@ -3,13 +3,18 @@
 -- engine's releasing, interview_release, release_speedup and previous_state.
 use mathlib.Core.Bool.{cond}
 use lib.Dec.{eqb}
-use lib.ListN.{length}
+use lib.ListN.{length, getD, drop}
 use lib.Ieee.{binary32, ofBits}
 use Rattle.sequence.specs.History.{latest, filled}
 use Rattle.level.specs.Bs1770.{shortTermFrames}
 use Rattle.float.specs.Arithmetic.{zero64}
 use Rattle.level.specs.declared.Level.{Level}
 use Rattle.level.specs.Deque.{Meter}
+use Rattle.layout.specs.declared.Layout.{Layout}
+use Rattle.channels.specs.declared.Surround.{Surround}
+use Rattle.channels.specs.Channels.{resting}
+use Rattle.channels.specs.Surround.{otherChannels, levelOf}
+use Rattle.channels.specs.Deque.{Meters}
 use Rattle.detector.specs.declared.floor.Floor.{Floor}
 use Rattle.detector.specs.declared.FeatureDetector.{FeatureDetector}
 use Rattle.detector.specs.Rust.{RustFloor, RustDetector}
@@ -66,5 +71,18 @@ strandStored level v = record { level = level (v .level); detector = detectorSto
 abbrev pub loopsStored : LoopBank → Loops
 loopsStored b = record { slow = db (b .slow); mid = db (b .mid); fast = db (b .fast); «hold_remaining_seconds» = b .hold }
 
+-- the bed's: its first channel stands with the 300 powers in the strand, the others beside it
+abbrev pub bedLevelStored : Meters → Level
+bedLevelStored m = levelOf (getD (m .channels) 0 resting) (record { count = length (m .frames); list = filled zero64 shortTermFrames (m .frames) })
+
+abbrev pub surroundStored : Layout → Meters → Surround
+surroundStored l m = record { layout = l; others = filled resting otherChannels (drop 1 (m .channels)) }
+
 unfoldable pub stored : RustChain → Chain
-stored m = record { settings = m .settings; key = strandStored levelStored (m .key); bed = strandStored levelStored (m .bed); loops = loopsStored (m .ducker .engine .loops) }
+stored m = record {
+  settings = m .settings;
+  key = strandStored levelStored (m .key);
+  bed = strandStored bedLevelStored (m .bed);
+  loops = loopsStored (m .ducker .engine .loops);
+  surround = surroundStored (m .layout) (m .bed .level);
+}

@@ -6,6 +6,7 @@ use mathlib.Core.Logic.{_↔_, Iff·trans}
 use mathlib.Core.List.{List, [], _∷_, _++_}
 use lib.Dec.{T, eqb}
 use lib.ListN.{length}
+use lib.Seq.{length-take-le}
 use lib.Ieee.{Float}
 use lib.Ieee.Bits.{is-true}
 use lib.Ieee.Fits.{and-i, and-l, and-r}
@@ -19,13 +20,13 @@ use Rattle.chain.specs.declared.Chain.{Chain}
 use Rattle.chain.specs.declared.Outcome.{Outcome}
 use Rattle.chain.specs.declared.Outcome.the-variants as outcome
 use Rattle.chain.specs.declared.Worked.{Worked}
-use Rattle.chain.specs.Chain.{inputsOf, workOf, answerOf, refusedOf, passedOf, finiteIn, fullIn, judgedOf, frameOf}
+use Rattle.chain.specs.Chain.{inputsOf, firstChannel, workOf, answerOf, refusedOf, passedOf, finiteIn, fullIn, judgedOf, channelCount, bedLength, frameOf}
 use Rattle.chain.specs.StrandFrames.{Whole}
 use Rattle.chain.specs.Valid.{Valid}
-use Rattle.chain.specs.Numbers.{ofSettings, ofStrand, numbersOf}
+use Rattle.chain.specs.Numbers.{ofSettings, ofStrand, ofLoops, numbersOf}
 use Rattle.rules.specs.Rules.{frameNumber}
-use Rattle.runaway.specs.Runaway.{storedIn, ofStatus, ofState, answeredIn, toLogarithm, toTen, toPower, toRoot, toNarrowing, numbersIn, RunsAway, RunawayExact}
-use Rattle.level.proofs.Finite.{Alls, _and_, all-finite, finite-all, parts}
+use Rattle.runaway.specs.Runaway.{storedIn, ofStatus, ofState, answeredIn, keyFast, bedFast, toLogarithm, toTen, toPower, toRoot, toNarrowing, numbersIn, RunsAway, RunawayExact}
+use Rattle.level.proofs.Finite.{Alls, none, _and_, all-finite, finite-all, parts}
 use Rattle.rules.proofs.AllFinite.{of-settings}
 use Rattle.sequence.proofs.Tests as tests
 use Rattle.rules.proofs.Laws.{rows, framed}
@@ -35,11 +36,11 @@ use Rattle.runaway.proofs.DuckTold as duck
 -- ---- the lists of both strands and of the ducker, put together
 
 record Lists (c : Chain) (xs ys : List Float) (w : Worked) : Type 0 where
-  key : strands.Lists (c .key) xs (w .key)
-  bed : strands.Lists (c .bed) ys (w .bed)
+  key : strands.KeyLists (c .key) xs (w .key)
+  bed : strands.BedLists (c .bed) ys (w .bed) (w .surround)
   duck : duck.Lists (c .settings .duck .enabled) (c .loops) (c .settings .duck) (inputsOf (w .key) (w .bed)) (w .duck)
 
-module _ (c : Chain) (key bed : List Float) (v : Valid c) (h : Whole key bed) where
+module _ (c : Chain) (key bed : List Float) (v : Valid c) (h : Whole (channelCount c) key bed) where
   abbrev w : Worked
   w = workOf c key bed
 
@@ -49,7 +50,7 @@ module _ (c : Chain) (key bed : List Float) (v : Valid c) (h : Whole key bed) wh
       let k = t .key in
       let b = t .bed in
       let d = t .duck in
-      (of-settings (c .settings) (v .settings) and k .stored and b .stored and d .stored)
+      (of-settings (c .settings) (v .settings) and k .stored and b .stored and d .stored and b .beside)
       and (d .answered and k .answered and b .answered)
       and (k .logarithm and b .logarithm)
       and (k .power and b .power and d .power)
@@ -61,7 +62,9 @@ module _ (c : Chain) (key bed : List Float) (v : Valid c) (h : Whole key bed) wh
   apart t =
       let stored = storedIn c w in
       let answered = answeredIn (answerOf w) in
-      let logarithm = toLogarithm (c .key) key (w .key) ++ toLogarithm (c .bed) bed (w .bed) in
+      let first = firstChannel bed in
+      let key-logarithm = toLogarithm (c .key) key (w .key) (keyFast (w .key .strand .level)) in
+      let logarithm = key-logarithm ++ toLogarithm (c .bed) first (w .bed) (bedFast (w .bed .strand .level) (w .surround)) in
       let power = toPower c w in
       let root = toRoot (w .key) ++ toRoot (w .bed) in
       let five = parts (stored ++ answered ++ logarithm ++ power ++ root) t in
@@ -70,32 +73,36 @@ module _ (c : Chain) (key bed : List Float) (v : Valid c) (h : Whole key bed) wh
       let two = parts (stored ++ answered) (three .0) in
       let one = parts stored (two .0) in
       let settings = ofSettings (c .settings) in
-      let s2 = parts (settings ++ ofStrand (w .key .strand) ++ ofStrand (w .bed .strand)) (one .0) in
+      let s3 = parts (settings ++ ofStrand (w .key .strand) ++ ofStrand (w .bed .strand) ++ ofLoops (w .duck .loops)) (one .0) in
+      let s2 = parts (settings ++ ofStrand (w .key .strand) ++ ofStrand (w .bed .strand)) (s3 .0) in
       let s1 = parts (settings ++ ofStrand (w .key .strand)) (s2 .0) in
       let s0 = parts settings (s1 .0) in
       let shown = (w .duck .reduction .0 ∷ []) ++ ofStatus (w .duck .status) in
       let a1 = parts (shown ++ ofState (w .key .state)) (one .1) in
       let a0 = parts shown (a1 .0) in
-      let l = parts (toLogarithm (c .key) key (w .key)) (two .1) in
+      let l = parts key-logarithm (two .1) in
       let p1 = parts (toTen (w .key) ++ toTen (w .bed)) (three .1) in
       let p0 = parts (toTen (w .key)) (p1 .0) in
       let r = parts (toRoot (w .key)) (four .1) in
       let n = parts (toNarrowing (c .key) key) (five .1) in
       record {
-        key = record { stored = s0 .1; answered = a0 .1; logarithm = l .0; power = p0 .0; root = r .0; narrowing = n .0 };
-        bed = record { stored = s1 .1; answered = a1 .1; logarithm = l .1; power = p0 .1; root = r .1; narrowing = n .1 };
+        key = record { stored = s0 .1; beside = none; answered = a0 .1; logarithm = l .0; power = p0 .0; root = r .0; narrowing = n .0 };
+        bed = record { stored = s1 .1; beside = s3 .1; answered = a1 .1; logarithm = l .1; power = p0 .1; root = r .1; narrowing = n .1 };
         duck = record { stored = s2 .1; answered = a0 .0; power = p1 .1 };
       }
 
   -- ---- the flags
+
+  first-length : length (firstChannel bed) ≡ 480
+  first-length = length-take-le 480 bed (let n = h .bed-length in omega (arith, n))
 
   told : T (finiteIn w) → Lists c key bed w
   unfolding workOf
   told t =
       let both = and-l (w .key .finite && w .bed .finite) (w .duck .finite) t in
       record {
-        key = strands.strand-told (c .key) (v .key) key (h .key-length) (c .settings .key) (and-l (w .key .finite) (w .bed .finite) both);
-        bed = strands.strand-told (c .bed) (v .bed) bed (h .bed-length) (c .settings .bed) (and-r (w .key .finite) (w .bed .finite) both);
+        key = strands.key-told (c .key) (v .key) key (h .key-length) (c .settings .key) (and-l (w .key .finite) (w .bed .finite) both);
+        bed = strands.bed-told (c .bed) (v .bed) (c .surround) (v .surround) bed first-length (c .settings .bed) (and-r (w .key .finite) (w .bed .finite) both);
         duck = duck.duck-told (c .loops) (c .settings .duck) (inputsOf (w .key) (w .bed)) (and-r (w .key .finite && w .bed .finite) (w .duck .finite) t);
       }
 
@@ -104,8 +111,8 @@ module _ (c : Chain) (key bed : List Float) (v : Valid c) (h : Whole key bed) wh
   tells t =
       and-i (w .key .finite && w .bed .finite) (w .duck .finite)
       (and-i (w .key .finite) (w .bed .finite)
-      (strands.strand-tells (c .key) (v .key) key (h .key-length) (c .settings .key) (t .key))
-      (strands.strand-tells (c .bed) (v .bed) bed (h .bed-length) (c .settings .bed) (t .bed)))
+      (strands.key-tells (c .key) (v .key) key (h .key-length) (c .settings .key) (t .key))
+      (strands.bed-tells (c .bed) (v .bed) (c .surround) (v .surround) bed first-length (c .settings .bed) (t .bed)))
       (duck.duck-tells (c .loops) (c .settings .duck) (inputsOf (w .key) (w .bed)) (t .duck))
 
   same : (a b : Bool) → (T a → T b) → (T b → T a) → a ≡ b
@@ -161,14 +168,14 @@ module _ (c : Chain) (w : Worked) where
 
 module _ (c : Chain) (key bed : List Float) where
   abbrev Tests : Type 0
-  Tests = Tested (eqb (length key) frameLength) (eqb (length bed) frameLength) (allFinite key) (allFinite bed) (finiteIn (workOf c key bed))
+  Tests = Tested (eqb (length key) frameLength) (eqb (length bed) (bedLength c)) (allFinite key) (allFinite bed) (finiteIn (workOf c key bed))
 
   number-tests : (frameNumber c key bed ≡ numberOf Runaway) ↔ Tests
   unfolding frameNumber
   number-tests =
       let w = workOf c key bed in (
-        tested c w (eqb (length key) frameLength) (eqb (length bed) frameLength) (allFinite key) (allFinite bed) (finiteIn w) (fullIn w),
-        numbered c w (eqb (length key) frameLength) (eqb (length bed) frameLength) (allFinite key) (allFinite bed) (finiteIn w) (fullIn w),
+        tested c w (eqb (length key) frameLength) (eqb (length bed) (bedLength c)) (allFinite key) (allFinite bed) (finiteIn w) (fullIn w),
+        numbered c w (eqb (length key) frameLength) (eqb (length bed) (bedLength c)) (allFinite key) (allFinite bed) (finiteIn w) (fullIn w),
       )
 
   outcome-tests : (frameOf c key bed .outcome ≡ outcome.Refused Runaway) ↔ Tests
@@ -176,19 +183,19 @@ module _ (c : Chain) (key bed : List Float) where
   outcome-tests =
       let w = workOf c key bed in
       let x = eqb (length key) frameLength in
-      let y = eqb (length bed) frameLength in (
+      let y = eqb (length bed) (bedLength c) in (
         λ e. tested c w x y (allFinite key) (allFinite bed) (finiteIn w) (fullIn w) (sym (answered c w x y (allFinite key) (allFinite bed) (finiteIn w) (fullIn w)) ∙ ap (codeOf c w) e),
         refused c w x y (allFinite key) (allFinite bed) (finiteIn w) (fullIn w),
       )
 
-  -- a frame of 480 finite samples for each strand, and a number of the lists that isn't finite
+  -- a frame of 480 finite samples of the key and of each channel of the bed, and a number of the lists that isn't finite
   tests-lists : Valid c → Tests ↔ RunsAway c key bed
   tests-lists v = (λ t. let h = whole t in (h, sym (finite-is c key bed v h) ∙ t .runs-away), back)
     where
-      whole : Tests → Whole key bed
+      whole : Tests → Whole (channelCount c) key bed
       whole t = record {
         key-length = eqb-true (length key) frameLength (t .key-length);
-        bed-length = eqb-true (length bed) frameLength (t .bed-length);
+        bed-length = eqb-true (length bed) (bedLength c) (t .bed-length);
         key-samples = tests.told (allFinite key) (t .key-samples);
         bed-samples = tests.told (allFinite bed) (t .bed-samples);
       }
@@ -196,7 +203,7 @@ module _ (c : Chain) (key bed : List Float) where
       back : RunsAway c key bed → Tests
       back r = record {
         key-length = eq-eqb (length key) frameLength (r .0 .key-length);
-        bed-length = eq-eqb (length bed) frameLength (r .0 .bed-length);
+        bed-length = eq-eqb (length bed) (bedLength c) (r .0 .bed-length);
         key-samples = is-true (allFinite key) (r .0 .key-samples);
         bed-samples = is-true (allFinite bed) (r .0 .bed-samples);
         runs-away = finite-is c key bed v (r .0) ∙ r .1;

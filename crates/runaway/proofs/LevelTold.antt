@@ -1,4 +1,5 @@
--- The level's flag against the lists: what it says of the powers that go to the logarithm, and that it holds where they and the stored numbers are finite.
+-- The flag of a level of one channel against the lists: it says that what is stored and the powers that go to the logarithm are finite, and holds where
+-- they are.
 use native.Mathlib.Omega.{arith}
 use mathlib.Core.Path.{_≡_, subst}
 use mathlib.Core.Bool.{Bool, true, false, cond}
@@ -16,12 +17,14 @@ use Rattle.level.specs.declared.Level.{Level}
 use Rattle.level.specs.Weighing.{runOf}
 use Rattle.level.specs.Deque.{joint}
 use Rattle.level.specs.Level as level
+use Rattle.level.specs.Valid.{Valid}
 use Rattle.level.specs.declared.Weighing.{Weighing}
-use Rattle.runaway.specs.Runaway.{aboveZero, ofLoudness}
+use Rattle.runaway.specs.Runaway.{aboveZero, ofLoudness, keyFast}
 use Rattle.chain.specs.Numbers.{ofLevel}
 use Rattle.level.proofs.Finite.{Alls, none, _more_, _and_, all-finite, finite-all, only, parts, new-finite}
 use Rattle.level.proofs.Readings.{loudness-finite}
-use Rattle.rules.proofs.AllFinite.{zero-finite}
+use Rattle.level.proofs.Valid.{frame-valid}
+use Rattle.rules.proofs.AllFinite.{zero-finite, of-level}
 
 -- ---- a power, as the flags have it: 0 in place of one that isn't above 0
 
@@ -51,10 +54,10 @@ module _ (power a b f : Float) where
   abbrev handed : List Float
   handed = aboveZero a ++ aboveZero b ++ aboveZero f
 
-  numbers-told : (x y z : Float) → Alls (power ∷ maxOf zero64 a ∷ maxOf zero64 b ∷ maxOf zero64 f ∷ x ∷ y ∷ z ∷ []) → Alls handed
+  pub numbers-told : (x y z : Float) → Alls (power ∷ maxOf zero64 a ∷ maxOf zero64 b ∷ maxOf zero64 f ∷ x ∷ y ∷ z ∷ []) → Alls handed
   numbers-told x y z (p more ha more hb more hf more t) = above-told a ha and above-told b hb and above-told f hf
 
-  numbers-tell : T (fits binary64 a) → T (fits binary64 b) → T (fits binary64 f) → T (finite power) → Alls handed
+  pub numbers-tell : T (fits binary64 a) → T (fits binary64 b) → T (fits binary64 f) → T (finite power) → Alls handed
       → Alls (power ∷ maxOf zero64 a ∷ maxOf zero64 b ∷ maxOf zero64 f ∷ loudness a ∷ loudness b ∷ loudness f ∷ [])
   numbers-tell fa fb ff p t =
       let two = parts (aboveZero a ++ aboveZero b) t in
@@ -63,6 +66,12 @@ module _ (power a b f : Float) where
       more loudness-finite a fa (above-finite a (one .0)) more loudness-finite b fb (above-finite b (one .1)) more loudness-finite f ff (above-finite f (two .1)) more none
 
 -- ---- a frame
+
+-- of the level l after it: what the strand stores and what is stored beside it, in the bed's other channels, and what goes to the logarithm
+pub record Lists (l : Level) (beside : List Float) (fast : Float) : Type 0 where
+  pub stored : Alls (ofLevel l)
+  pub others : Alls beside
+  pub logarithm : Alls (ofLoudness l fast)
 
 module _ (l : Level) (xs : List Float) where
   abbrev w : Weighing
@@ -77,13 +86,16 @@ module _ (l : Level) (xs : List Float) where
       let m = level.meansOf (level.pushOf (l .powers) (j .power)) in
       level.numbersOf j m (level.readingOf j m)
 
-  pub level-told : T (level.frameOf l xs .finite) → Alls (ofLoudness after)
+  handed-on : T (level.frameOf l xs .finite) → Alls (ofLoudness after (keyFast after))
   unfolding level.frameOf level.finishOf level.readOf level.meansOf level.joinedOf
-  level-told t = numbers-told _ _ _ _ _ _ _ (finite-all numbers (and-r (allFinite (level.storedOf w)) (allFinite numbers) t))
+  handed-on t = numbers-told _ _ _ _ _ _ _ (finite-all numbers (and-r (allFinite (level.storedOf w)) (allFinite numbers) t))
 
-  pub level-tells : length (l .powers .list) ≡ 300 → Alls (ofLevel after) → Alls (ofLoudness after) → T (level.frameOf l xs .finite)
+  pub level-told : Valid l → T (level.frameOf l xs .finite) → Lists after [] (keyFast after)
+  level-told v t = record { stored = of-level after (frame-valid l xs v t); others = none; logarithm = handed-on t }
+
+  pub level-tells : length (l .powers .list) ≡ 300 → Lists after [] (keyFast after) → T (level.frameOf l xs .finite)
   unfolding level.frameOf level.finishOf level.readOf level.meansOf level.joinedOf level.lufsOf level.pushOf level.meanOver
-  level-tells n s t =
-      let stored = parts (level.storedOf w) s in
+  level-tells n a =
+      let stored = parts (level.storedOf w) (a .stored) in
       and-i (allFinite (level.storedOf w)) (allFinite numbers) (all-finite (stored .0))
-      (all-finite (numbers-tell _ _ _ _ (div-fits binary64 _ _) (div-fits binary64 _ _) (add-fits binary64 _ _) (only (new-finite (l .powers .count) (l .powers .list) _ (omega (arith, n)) (stored .1))) t))
+      (all-finite (numbers-tell _ _ _ _ (div-fits binary64 _ _) (div-fits binary64 _ _) (add-fits binary64 _ _) (only (new-finite (l .powers .count) (l .powers .list) _ (omega (arith, n)) (stored .1))) (a .logarithm)))

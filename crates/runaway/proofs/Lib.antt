@@ -1,4 +1,5 @@
 pub mod LevelTold
+pub mod BedTold
 pub mod DetectorTold
 pub mod StrandTold
 pub mod DuckTold

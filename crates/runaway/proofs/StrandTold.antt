@@ -1,4 +1,4 @@
--- A strand's flag against the lists: level, detector, decision and answer put together.
+-- A strand's flag against the lists: level, detector, decision and answer put together, of the key and of the bed.
 use mathlib.Core.Path.{_≡_}
 use mathlib.Core.Bool.{Bool, true, false, cond, _&&_}
 use mathlib.Core.List.{List, [], _∷_, _++_}
@@ -12,7 +12,10 @@ use Rattle.float.specs.AllFinite.{allFinite}
 use Rattle.level.specs.Level as level
 use Rattle.level.specs.declared.Framed as metered
 use Rattle.level.specs.declared.Reading.{Reading}
-use Rattle.level.proofs.Valid as levels
+use Rattle.channels.specs.declared.Surround.{Surround}
+use Rattle.channels.specs.declared.BedFramed.{BedFramed}
+use Rattle.channels.specs.Surround.{bedFrameOf}
+use Rattle.channels.specs.Valid.{SurroundValid}
 use Rattle.detector.specs.Detector as detector
 use Rattle.detector.specs.Filters.{begun, runOf}
 use Rattle.detector.specs.declared.Frame.{Frame}
@@ -31,11 +34,14 @@ use Rattle.vad.specs.Decision.{exponent}
 use Rattle.vad.specs.State.{stateOf, powerNumber, levelNumber, numbersOf}
 use Rattle.vad.specs.Strand.{gatedOf, nextOf, finishOf, frameOf}
 use Rattle.vad.specs.Valid.{Valid}
-use Rattle.chain.specs.Numbers.{ofLevel, ofDetector, ofPower, ofDecision, ofStrand}
-use Rattle.runaway.specs.Runaway.{ofSpeechLevel, ofState, ofLoudness, ofBands, ofSpeech, toLogarithm, toTen, toRoot, toNarrowing}
+use Rattle.chain.specs.Chain.{firstChannel, bedStrandOf}
+use Rattle.chain.specs.Numbers.{ofLevel, ofDetector, ofPower, ofDecision, ofStrand, ofChannels}
+use Rattle.runaway.specs.Runaway.{ofSpeechLevel, ofState, ofLoudness, keyFast, bedFast, ofBands, ofSpeech, toLogarithm, toTen, toRoot, toNarrowing}
 use Rattle.level.proofs.Finite.{Alls, none, _more_, _and_, all-finite, finite-all, parts}
-use Rattle.rules.proofs.AllFinite.{zero-finite, of-level, of-detector}
-use Rattle.runaway.proofs.LevelTold.{handed-told, handed-tells, level-told, level-tells}
+use Rattle.rules.proofs.AllFinite.{zero-finite, of-detector}
+use Rattle.runaway.proofs.LevelTold.{handed-told, handed-tells}
+use Rattle.runaway.proofs.LevelTold as levels
+use Rattle.runaway.proofs.BedTold as beds
 use Rattle.runaway.proofs.DetectorTold.{detector-told, detector-tells}
 
 -- ---- what may be absent: nothing, which counts as 0 in the flags
@@ -98,59 +104,91 @@ module _ (d : Decision) (gated : Bool) (h : Frame) (r : Reading) where
       go (p more s) (q more a more b more c more f1 more f2 more f3 more f4 more l) =
           p more power-tells (d .power) s more handed-tells (d .active) _ (t .power) more shown-level _ l more a more b more c more f1 more f2 more f3 more f4 more none
 
--- ---- a frame
+-- ---- what follows level and detector: of a strand t whose detector hears the 480 samples xs, and whose level after the frame is l
 
-pub record Lists (t : Strand) (xs : List Float) (f : Framed) : Type 0 where
+-- beside the strand others are stored, in the bed's channels after the first; fast is the fast power that is handed on
+pub record Lists (t : Strand) (xs : List Float) (f : Framed) (others : List Float) (fast : Float) : Type 0 where
   pub stored : Alls (ofStrand (f .strand))
+  pub beside : Alls others
   pub answered : Alls (ofState (f .state))
-  pub logarithm : Alls (toLogarithm t xs f)
+  pub logarithm : Alls (toLogarithm t xs f fast)
   pub power : Alls (toTen f)
   pub root : Alls (toRoot f)
   pub narrowing : Alls (toNarrowing t xs)
 
 module _ (t : Strand) (v : Valid t) (xs : List Float) (n : length xs ≡ 480) (s : VadSettings) where
-  abbrev l : metered.Framed
-  l = level.frameOf (t .level) xs
-
   abbrev h : Heard
   h = detector.frameOf (t .detector) xs
 
-  abbrev d : Decision
-  d = nextOf (t .decision) l h s
+  module _ (l : metered.Framed) (others : List Float) (fast : Float) where
+    abbrev f : Framed
+    f = finishOf (t .decision) l h s
 
-  abbrev numbers : List Float
-  numbers = numbersOf d (stateOf d (gatedOf l s) (h .frame) (l .reading))
+    abbrev d : Decision
+    d = nextOf (t .decision) l h s
 
-  pub strand-told : T (frameOf t xs s .finite) → Lists t xs (frameOf t xs s)
+    abbrev numbers : List Float
+    numbers = numbersOf d (stateOf d (gatedOf l s) (h .frame) (l .reading))
+
+    finish-told : (T (l .finite) → levels.Lists (l .level) others fast) → T (f .finite) → Lists t xs f others fast
+    unfolding finishOf
+    finish-told levelled ok =
+        let front = and-l (l .finite && h .finite) (allFinite numbers) ok in
+        let hf = and-r (l .finite) (h .finite) front in
+        let m = levelled (and-l (l .finite) (h .finite) front) in
+        let a = numbers-told d (gatedOf l s) (h .frame) (l .reading) (finite-all numbers (and-r (l .finite && h .finite) (allFinite numbers) ok)) in
+        let b = detector-told (t .detector) xs n hf in
+        record {
+          stored = m .stored and of-detector (h .detector) (detectors.frame-valid (t .detector) xs (v .detector) hf) and a .stored;
+          beside = m .others;
+          answered = a .answered;
+          logarithm = m .logarithm and b .powers and a .logarithm;
+          power = a .power;
+          root = b .roots;
+          narrowing = b .narrowed;
+        }
+
+    finish-tells : (levels.Lists (l .level) others fast → T (l .finite)) → Lists t xs f others fast → T (f .finite)
+    unfolding finishOf
+    finish-tells levelled a =
+        let two = parts (ofLevel (l .level) ++ ofDetector (h .detector)) (a .stored) in
+        let one = parts (ofLevel (l .level)) (two .0) in
+        let bands = ofBands (runOf (begun (t .detector .filters)) xs) in
+        let last = parts (ofLoudness (l .level) fast ++ bands) (a .logarithm) in
+        let first = parts (ofLoudness (l .level) fast) (last .0) in
+        and-i (l .finite && h .finite) (allFinite numbers)
+        (and-i (l .finite) (h .finite)
+        (levelled (record { stored = one .0; others = a .beside; logarithm = first .0 }))
+        (detector-tells (t .detector) xs n (v .detector) (one .1) (record { powers = first .1; roots = a .root; narrowed = a .narrowing })))
+        (all-finite (numbers-tell d (gatedOf l s) (h .frame) (l .reading) (record { stored = two .1; answered = a .answered; logarithm = last .1; power = a .power })))
+
+-- ---- a frame of the key
+
+abbrev pub KeyLists : Strand → List Float → Framed → Type 0
+KeyLists t xs f = Lists t xs f [] (keyFast (f .strand .level))
+
+module _ (t : Strand) (v : Valid t) (xs : List Float) (n : length xs ≡ 480) (s : VadSettings) where
+  pub key-told : T (frameOf t xs s .finite) → KeyLists t xs (frameOf t xs s)
   unfolding frameOf finishOf
-  strand-told ok =
-      let front = and-l (l .finite && h .finite) (allFinite numbers) ok in
-      let lf = and-l (l .finite) (h .finite) front in
-      let hf = and-r (l .finite) (h .finite) front in
-      let a = numbers-told d (gatedOf l s) (h .frame) (l .reading) (finite-all numbers (and-r (l .finite && h .finite) (allFinite numbers) ok)) in
-      let b = detector-told (t .detector) xs n hf in
-      record {
-        stored =
-            of-level (l .level) (levels.frame-valid (t .level) xs (v .level) lf)
-            and of-detector (h .detector) (detectors.frame-valid (t .detector) xs (v .detector) hf)
-            and a .stored;
-        answered = a .answered;
-        logarithm = level-told (t .level) xs lf and b .powers and a .logarithm;
-        power = a .power;
-        root = b .roots;
-        narrowing = b .narrowed;
-      }
+  key-told = finish-told t v xs n s (level.frameOf (t .level) xs) [] _ (levels.level-told (t .level) xs (v .level))
 
-  pub strand-tells : Lists t xs (frameOf t xs s) → T (frameOf t xs s .finite)
+  pub key-tells : KeyLists t xs (frameOf t xs s) → T (frameOf t xs s .finite)
   unfolding frameOf finishOf
-  strand-tells a =
-      let two = parts (ofLevel (l .level) ++ ofDetector (h .detector)) (a .stored) in
-      let one = parts (ofLevel (l .level)) (two .0) in
-      let bands = ofBands (runOf (begun (t .detector .filters)) xs) in
-      let last = parts (ofLoudness (l .level) ++ bands) (a .logarithm) in
-      let first = parts (ofLoudness (l .level)) (last .0) in
-      and-i (l .finite && h .finite) (allFinite numbers)
-      (and-i (l .finite) (h .finite)
-      (level-tells (t .level) xs (v .level .powers .size) (one .0) (first .0))
-      (detector-tells (t .detector) xs n (v .detector) (one .1) (record { powers = first .1; roots = a .root; narrowed = a .narrowing })))
-      (all-finite (numbers-tell d (gatedOf l s) (h .frame) (l .reading) (record { stored = two .1; answered = a .answered; logarithm = last .1; power = a .power })))
+  key-tells = finish-tells t v xs n s (level.frameOf (t .level) xs) [] _ (levels.level-tells (t .level) xs (v .level .powers .size))
+
+-- ---- a frame of the bed, of all its channels; its detector hears the first
+
+abbrev pub BedLists : Strand → List Float → Framed → Surround → Type 0
+BedLists t bed f after = Lists t (firstChannel bed) f (ofChannels (after .others)) (bedFast (f .strand .level) after)
+
+module _ (t : Strand) (v : Valid t) (u : Surround) (vu : SurroundValid u) (bed : List Float) (n : length (firstChannel bed) ≡ 480) (s : VadSettings) where
+  abbrev b : BedFramed
+  b = bedFrameOf (t .level) u bed
+
+  pub bed-told : T (bedStrandOf t (b .framed) bed s .finite) → BedLists t bed (bedStrandOf t (b .framed) bed s) (b .surround)
+  unfolding bedStrandOf finishOf
+  bed-told = finish-told t v (firstChannel bed) n s (b .framed) _ _ (beds.bed-told (t .level) u bed (v .level) vu)
+
+  pub bed-tells : BedLists t bed (bedStrandOf t (b .framed) bed s) (b .surround) → T (bedStrandOf t (b .framed) bed s .finite)
+  unfolding bedStrandOf finishOf
+  bed-tells = finish-tells t v (firstChannel bed) n s (b .framed) _ _ (beds.bed-tells (t .level) u bed (v .level .powers .size))

@@ -1,6 +1,7 @@
 -- Refusal 4, runaway: the frame would store, answer, or hand to the logarithm, a power, the root or the narrowing a number that isn't finite.
 -- Here stand all these numbers, as the specification and the Rust have them: a list for each of the six, and the promise. No flag of the code is read.
--- What a frame makes of a chain is `workOf`; t is a strand before the frame, xs are its 480 samples, and f is what the frame makes of it.
+-- What a frame makes of a chain is `workOf`; t is a strand before the frame, xs are the 480 samples that its detector hears (all of the key's, the
+-- bed's first channel), and f is what the frame makes of it.
 use Prim.Native.Nat.{ℕ, zero, suc, _+_, _-_}
 use mathlib.Core.Path.{_≡_}
 use mathlib.Core.Logic.{_↔_}
@@ -19,6 +20,10 @@ use Rattle.level.specs.Bs1770.{momentaryFrames, shortTermFrames}
 use Rattle.float.specs.Arithmetic.{_⊕_, _⊖_, _⊗_, _⊘_, zero64, one64, ten64}
 use Rattle.float.specs.AllFinite.{allFinite}
 use Rattle.level.specs.Level as level
+use Rattle.layout.specs.Weights.{usedWeights}
+use Rattle.channels.specs.declared.Channel.{Channel}
+use Rattle.channels.specs.declared.Surround.{Surround}
+use Rattle.channels.specs.Surround.{ownOf}
 use Rattle.detector.specs.declared.filters.Bands.{Bands}
 use Rattle.detector.specs.declared.FeatureDetector.{FeatureDetector}
 use Rattle.detector.specs.Filters.{begun, runOf, outputsOf, eighths}
@@ -53,13 +58,13 @@ use Rattle.chain.specs.declared.Chain.{Chain}
 use Rattle.chain.specs.declared.Answer.{Answer}
 use Rattle.chain.specs.declared.Outcome.the-variants as outcome
 use Rattle.chain.specs.declared.Worked.{Worked}
-use Rattle.chain.specs.Chain.{inputsOf, workOf, keptOf, answerOf, frameOf}
+use Rattle.chain.specs.Chain.{inputsOf, firstChannel, workOf, keptOf, answerOf, channelCount, frameOf}
 use Rattle.chain.specs.StrandFrames.{Whole}
 use Rattle.chain.specs.Valid.{Valid}
 use Rattle.chain.specs.Numbers.{numbersOf}
 use Rattle.rules.specs.Rules.{frameNumber}
 
--- ---- stored: every float of the chain after the frame
+-- ---- stored: every float of the chain after the frame, those of each channel of the bed too, an LFE's as well
 
 abbrev pub storedIn : Chain → Worked → List Float
 storedIn c w = numbersOf (keptOf c w)
@@ -93,10 +98,23 @@ answeredIn a = (a .reduction .0 ∷ []) ++ ofStatus (a .status) ++ ofState (a .k
 abbrev pub aboveZero : Float → List Float
 aboveZero p = cond (lt zero64 p) (p ∷ []) []
 
--- the means over 40 and over 300 frames, and the fast power, of the level after the frame
-abbrev pub ofLoudness : Level → List Float
-ofLoudness l =
-    aboveZero (level.meanOf momentaryFrames (l .powers)) ++ aboveZero (level.meanOf shortTermFrames (l .powers)) ++ aboveZero (zero64 ⊕ one64 ⊗ l .fast)
+-- the means over 40 and over 300 frames of the level after the frame, and the fast power
+abbrev pub ofLoudness : Level → Float → List Float
+ofLoudness l fast = aboveZero (level.meanOf momentaryFrames (l .powers)) ++ aboveZero (level.meanOf shortTermFrames (l .powers)) ++ aboveZero fast
+
+-- the fast power of the key, which has one channel, of weight 1
+abbrev pub keyFast : Level → Float
+keyFast l = zero64 ⊕ one64 ⊗ l .fast
+
+-- each channel's fast power, by its weight, added in channel order
+unfoldable pub jointFast : Float → List Float → List Channel → Float
+jointFast sum [] cs = sum
+jointFast sum (b ∷ bs) [] = sum
+jointFast sum (b ∷ bs) (c ∷ cs) = jointFast (sum ⊕ b ⊗ c .fast) bs cs
+
+-- that of the bed: the strand's channel is its first, and the weights are the layout's
+abbrev pub bedFast : Level → Surround → Float
+bedFast l s = jointFast zero64 (usedWeights (s .layout)) (ownOf l ∷ s .others)
 
 -- the powers of the frame and of its band, from the sums over the samples
 abbrev pub ofBands : Bands → List Float
@@ -107,8 +125,8 @@ abbrev pub ofSpeech : SpeechPower → List Float
 ofSpeech power.Unset = []
 ofSpeech (power.At m) = aboveZero m
 
-abbrev pub toLogarithm : Strand → List Float → Framed → List Float
-toLogarithm t xs f = ofLoudness (f .strand .level) ++ ofBands (runOf (begun (t .detector .filters)) xs) ++ ofSpeech (f .strand .decision .power)
+abbrev pub toLogarithm : Strand → List Float → Framed → Float → List Float
+toLogarithm t xs f fast = ofLoudness (f .strand .level) fast ++ ofBands (runOf (begun (t .detector .filters)) xs) ++ ofSpeech (f .strand .decision .power)
 
 -- ---- to a power
 
@@ -209,18 +227,19 @@ toNarrowing t xs = eighths 60 (outputsOf (begun (t .detector .filters)) xs)
 unfoldable pub numbersIn : Chain → List Float → List Float → List Float
 numbersIn c key bed =
     let w = workOf c key bed in
+    let first = firstChannel bed in
     storedIn c w
     ++ answeredIn (answerOf w)
-    ++ (toLogarithm (c .key) key (w .key) ++ toLogarithm (c .bed) bed (w .bed))
+    ++ (toLogarithm (c .key) key (w .key) (keyFast (w .key .strand .level)) ++ toLogarithm (c .bed) first (w .bed) (bedFast (w .bed .strand .level) (w .surround)))
     ++ toPower c w
     ++ (toRoot (w .key) ++ toRoot (w .bed))
-    ++ (toNarrowing (c .key) key ++ toNarrowing (c .bed) bed)
+    ++ (toNarrowing (c .key) key ++ toNarrowing (c .bed) first)
 
 -- ---- the promise
 
--- 480 finite samples for each strand, so that neither 1 nor 2 is met, and a number that isn't finite
+-- 480 finite samples of the key and of each channel of the bed, so that neither 1 nor 2 is met, and a number that isn't finite
 abbrev pub RunsAway : Chain → List Float → List Float → Type 0
-RunsAway c key bed = Whole key bed × (allFinite (numbersIn c key bed) ≡ false)
+RunsAway c key bed = Whole (channelCount c) key bed × (allFinite (numbersIn c key bed) ≡ false)
 
 -- THE PROMISE: on a chain that an image can hold, a frame is refused with 4 exactly where it runs away
 pub record RunawayExact : Type 0 where

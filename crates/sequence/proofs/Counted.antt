@@ -2,63 +2,80 @@
 use Prim.Native.Nat.{ℕ, zero, suc, _+_, _-_, _≤_, _<_}
 use native.Mathlib.Omega.{arith}
 use mathlib.Core.Bool.{Bool, true, false}
-use mathlib.Core.Path.{_≡_, refl, ap, _∙_}
-use mathlib.Core.List.{List, _++_}
+use mathlib.Core.Path.{_≡_, refl, ap, sym, subst, _∙_}
+use mathlib.Core.List.{List, _∷_, _++_}
 use lib.Dec.{ltb}
-use lib.ListN.{length, getD, drop, replicate, length-replicate, length-append, length-drop, List·getD-append}
+use lib.ListN.{length, getD, drop, replicate, length-replicate, length-append, length-drop, List·getD-append, List·getD-eq-default}
 use lib.Seq.{ext-getD, getD-append-add, getD-drop, getD-take}
 use borrow.Author.Tests.{ltb-true, ltb-false}
 use Rattle.sequence.specs.History.{latest, held, filled, countAfter, placesAfter}
 use Rattle.sequence.specs.Counted.{Counted}
+use Rattle.sequence.proofs.Filled.{all-blank, filled-length, filled-at}
 use Rattle.sequence.proofs.Places.{count-within, kept, kept-length, held-length, places-length}
 
 module _ {A : Type 0} (Good : A → Type 0) (blank : A) (n : ℕ) where
-  all-blank : (m k : ℕ) → getD (replicate m blank) k blank ≡ blank
-  all-blank zero k = refl
-  all-blank (suc m) zero = refl
-  all-blank (suc m) (suc k) = all-blank m k
-
   pub counted-none : Counted Good blank n 0 (replicate n blank)
   counted-none = record {
     within = omega arith;
     size = length-replicate n blank;
     good = λ k h. absurd (omega arith);
-    rest = λ k h. all-blank n k;
+    rest = λ k h. all-blank blank n k;
   }
 
   module _ (count : ℕ) (places : List A) (ok : Counted Good blank n count places) where
     pub counted-length : length (held count places) ≡ count
     counted-length = held-length count places ∙ omega (arith, ok .within, ok .size)
 
-    filled-length : length (filled blank n (held count places)) ≡ length places
-    unfolding filled
-    filled-length =
-        length-append (held count places) (drop (length (held count places)) (replicate n blank))
-        ∙ omega (arith, length-drop (length (held count places)) (replicate n blank), length-replicate n blank, counted-length, ok .within, ok .size)
-
-    filled-at : (k : ℕ) → getD (filled blank n (held count places)) k blank ≡ getD places k blank
-    unfolding filled
-    filled-at k = go (ltb k (length (held count places))) refl
+    held-at : (k : ℕ) → getD (held count places) k blank ≡ getD places k blank
+    held-at k = go (ltb k count) refl
       where
-        go : (b : Bool) → ltb k (length (held count places)) ≡ b
-            → getD (held count places ++ drop (length (held count places)) (replicate n blank)) k blank ≡ getD places k blank
-        go true e =
-            let l : k < length (held count places) = ltb-true k (length (held count places)) e in
-            List·getD-append (held count places) (drop (length (held count places)) (replicate n blank)) blank k l
-            ∙ getD-take count places k blank (omega (arith, counted-length))
+        go : (b : Bool) → ltb k count ≡ b → getD (held count places) k blank ≡ getD places k blank
+        go true e = getD-take count places k blank (ltb-true k count e)
         go false e =
-            let h : length (held count places) ≤ k = ltb-false k (length (held count places)) e in
-            let j = k - length (held count places) in
-            let at : k ≡ length (held count places) + j = omega arith in
-            rw (ok .rest k (omega (arith, counted-length)))
-            (ap (λ (i : ℕ). getD (held count places ++ drop (length (held count places)) (replicate n blank)) i blank) at
-            ∙ getD-append-add (held count places) (drop (length (held count places)) (replicate n blank)) j blank
-            ∙ getD-drop (length (held count places)) (replicate n blank) j blank
-            ∙ all-blank n (length (held count places) + j))
+            let h : count ≤ k = ltb-false k count e in
+            List·getD-eq-default (held count places) blank {n = k} (omega (arith, counted-length)) ∙ sym (ok .rest k h)
 
     -- the places are what they hold, and blanks
     pub counted-filled : filled blank n (held count places) ≡ places
-    counted-filled = ext-getD blank (filled blank n (held count places)) places filled-length (λ k h. filled-at k)
+    counted-filled =
+        ext-getD blank (filled blank n (held count places)) places
+        (filled-length blank n (held count places) (omega (arith, counted-length, ok .within)) ∙ sym (ok .size))
+        (λ k h. filled-at blank n (held count places) k ∙ held-at k)
+
+  -- a list in the first of n places, where it is no longer than the count
+  pub filled-counted : (count : ℕ) (xs : List A) → length xs ≤ count → count ≤ n → ((k : ℕ) → k < count → Good (getD xs k blank))
+      → Counted Good blank n count (filled blank n xs)
+  filled-counted count xs l h g = record {
+    within = h;
+    size = filled-length blank n xs (omega arith);
+    good = λ k m. subst Good (sym (filled-at blank n xs k)) (g k m);
+    rest = λ k m. filled-at blank n xs k ∙ List·getD-eq-default xs blank {n = k} (omega arith);
+  }
+
+  -- one value more in front of all, and without the first
+  pub counted-cons : (x : A) (count : ℕ) (places : List A) → Good x → Counted Good blank n count places → Counted Good blank (suc n) (suc count) (x ∷ places)
+  counted-cons x count places g ok = record {
+    within = omega (arith, ok .within);
+    size = ap suc (ok .size);
+    good = first;
+    rest = last;
+  }
+    where
+      first : (k : ℕ) → k < suc count → Good (getD (x ∷ places) k blank)
+      first zero h = g
+      first (suc k) h = ok .good k (omega arith)
+
+      last : (k : ℕ) → suc count ≤ k → getD (x ∷ places) k blank ≡ blank
+      last zero h = absurd (omega arith)
+      last (suc k) h = ok .rest k (omega arith)
+
+  pub counted-rest : (count : ℕ) (places : List A) → Counted Good blank (suc n) (suc count) places → Counted Good blank n count (drop 1 places)
+  counted-rest count places ok = record {
+    within = omega (arith, ok .within);
+    size = length-drop 1 places ∙ omega (arith, ok .size);
+    good = λ k h. subst Good (sym (getD-drop 1 places k blank)) (ok .good (1 + k) (omega arith));
+    rest = λ k h. getD-drop 1 places k blank ∙ ok .rest (1 + k) (omega arith);
+  }
 
   module _ (count : ℕ) (places xs : List A) (ok : Counted Good blank n count places) (new : (k : ℕ) → k < length xs → Good (getD xs k blank)) where
     -- each value is good, of those held and those new

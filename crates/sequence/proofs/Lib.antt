@@ -1,5 +1,6 @@
 pub mod Fold
 pub mod Fill
+pub mod Filled
 pub mod Shift
 pub mod Latest
 pub mod Newest
@@ -7,3 +8,4 @@ pub mod Places
 pub mod Counted
 pub mod All
 pub mod Tests
+pub mod Sized

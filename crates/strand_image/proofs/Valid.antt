@@ -29,11 +29,11 @@ use Rattle.strand_image.proofs.Codecs.{zero-bits}
 
 -- ---- filters
 
-state-valid : (s : State) → state .Ok s → Settled s
+pub state-valid : (s : State) → state .Ok s → Settled s
 unfolding state
 state-valid s ok = record { z1 = ok .0; z2 = ok .1 .0 }
 
-valid-state : (s : State) → Settled s → state .Ok s
+pub valid-state : (s : State) → Settled s → state .Ok s
 unfolding state
 valid-state s v = (v .z1, (v .z2, tt))
 

@@ -49,7 +49,7 @@ module _ (l : List ℕ) (s : Words l) where
   abbrev two : Codec (Unit {0})
   two = fixed (replicate 2 0)
 
-  state-words : (i : ℕ) → Iff (Reads state l i) (FilterWords l i)
+  pub state-words : (i : ℕ) → Iff (Reads state l i) (FilterWords l i)
   unfolding state
   state-words i =
       let a = reads-pair (one-laws f64-laws) (pair (one f64) two) l i 1 (i + 1) refl refl in

@@ -81,6 +81,13 @@ fn put_state(w: &mut [u64], at: usize, s: State)
     codec::put_zeros(w, at + 2, 2);
 }
 
+// The words of a filter, from place `at` on; what has no place in w is dropped.
+pub fn put_filter(w: &mut [u64], at: u32, s: State)
+    ensures { λ _. ⌜ Run (now (w .entry)) at 4 (state .enc s) (now (w .exit)) ⌝ }
+{
+    put_state(w, at as usize, s);
+}
+
 fn put_filters(w: &mut [u64], at: usize, f: Filters)
     requires { ⌜ at + 16 ≤ 2 ^ 64 ⌝ }
     ensures { λ _. ⌜ Run (now (w .entry)) at 16 (filters .enc f) (now (w .exit)) ⌝ }
@@ -190,6 +197,13 @@ fn get_state(w: &[u64], at: usize) -> State
     let z1 = codec::get64(w, at);
     let z2 = codec::get64(w, at + 1);
     State { z1, z2 }
+}
+
+// The filter that the words from place `at` on are read as; a word that isn't there counts as 0.
+pub fn get_filter(w: &[u64], at: u32) -> State
+    ensures { λ r. ⌜ r ≡ state .dec (now (w .entry)) at ⌝ }
+{
+    get_state(w, at as usize)
 }
 
 fn get_filters(w: &[u64], at: usize) -> Filters

@@ -1,5 +1,5 @@
--- An answer as 41 words of 64 bits, and settings from 12. A float is its bits, a flag 0 or 1, an absent value 0. Definitions only.
-use Prim.Native.Nat.{ℕ}
+-- An answer as 41 words of 64 bits, settings from 12, and a layout from its count and 24. A float is its bits, a flag 0 or 1, an absent value 0. Definitions only.
+use Prim.Native.Nat.{ℕ, _+_}
 use mathlib.Core.Bool.{Bool, not}
 use mathlib.Core.List.{List, [], _∷_, _++_}
 use lib.Dec.{eqb}
@@ -8,6 +8,8 @@ use lib.Ieee.{Float, binary64, toBits, ofBits}
 use Rattle.float.specs.declared.Db.{Db}
 use Rattle.float.specs.Arithmetic.{zero64}
 use Rattle.codec.specs.Fields.{flagBits}
+use Rattle.layout.specs.declared.Place.{Place}
+use Rattle.layout.specs.declared.Layout.{Layout}
 use Rattle.comis.specs.Shown.{shownFlag, shownValue}
 use Rattle.comis.specs.MixState.{stateNumber}
 use Rattle.ratio.specs.declared.Duck.{Duck}
@@ -104,4 +106,24 @@ settingsFrom w = record {
   key = strandFrom (getD w 0 0) (getD w 1 0) (getD w 2 0);
   bed = strandFrom (getD w 3 0) (getD w 4 0) (getD w 5 0);
   duck = duckFrom w;
+}
+
+-- ---- a layout: for each of eight channels azimuth, elevation, LFE flag
+
+unfoldable pub placeFrom : List ℕ → ℕ → Place
+placeFrom w k = record { azimuth = getD w k 0; elevation = getD w (k + 1) 0; lfe = getD w (k + 2) 0 }
+
+unfoldable pub layoutFrom : ℕ → List ℕ → Layout
+layoutFrom n w = record {
+  count = n;
+  places =
+      placeFrom w 0
+      ∷ placeFrom w 3
+      ∷ placeFrom w 6
+      ∷ placeFrom w 9
+      ∷ placeFrom w 12
+      ∷ placeFrom w 15
+      ∷ placeFrom w 18
+      ∷ placeFrom w 21
+      ∷ [];
 }

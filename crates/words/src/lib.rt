@@ -1,4 +1,4 @@
-// Answers as words of 64 bits, and settings from words: for a list of calls in a file, for recorded answers and for callers in C. A float is
+// Answers as words of 64 bits, and settings and layouts from words: for a list of calls in a file, for recorded answers and for callers in C. A float is
 // its bits, a flag 0 or 1, an absent value 0.
 ghost use mathlib.Core.Path.{_≡_};
 ghost use Prim.Native.Nat.{_+_, _≤_};
@@ -13,11 +13,15 @@ ghost use Rattle.words.specs.Words.{
   strandFrom,
   duckFrom,
   settingsFrom,
+  placeFrom,
+  layoutFrom,
 };
 use chain::Answer;
 use codec::flag_bits;
 use float::Db;
 use float::Lufs;
+use layout::Layout;
+use layout::Place;
 use ratio::Duck;
 use ratio::RatioStatus;
 use settings::Settings;
@@ -152,4 +156,33 @@ pub fn settings(w: &[u64; 12]) -> Settings
         bed: strand_settings(w[3], w[4], w[5]),
         duck: duck(w),
     }
+}
+
+// A place from its three words. `layout` shows that they are there.
+fn place(w: &[u64; 24], at: usize) -> Place
+    requires { ⌜ at ≤ 21 ⌝ }
+    ensures { λ r. ⌜ r ≡ placeFrom (now (w .entry)) at ⌝ }
+{
+    Place {
+        azimuth: w[at],
+        elevation: w[at + 1],
+        lfe: w[at + 2],
+    }
+}
+
+// A layout from the number of its channels and eight times three words: azimuth, elevation, LFE flag.
+pub fn layout(count: u64, w: &[u64; 24]) -> Layout
+    ensures { λ r. ⌜ r ≡ layoutFrom count (now (w .entry)) ⌝ }
+{
+    let places = [
+        place(w, 0),
+        place(w, 3),
+        place(w, 6),
+        place(w, 9),
+        place(w, 12),
+        place(w, 15),
+        place(w, 18),
+        place(w, 21),
+    ];
+    Layout { count, places }
 }

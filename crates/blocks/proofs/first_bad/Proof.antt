@@ -28,17 +28,17 @@ blocks2-holds c = (omega arith, from-start _ _)
 loop-holds : tie.Need-loop-holds Inv-loop μ-loop Inv-blocks2 μ-blocks2
 loop-holds c = turn-start _ _
 
-mul-read8 : tie.Need-mul-read8 Inv-loop μ-loop Inv-blocks2 μ-blocks2
-mul-read8 c = search needs
+mul-whole8 : tie.Need-mul-whole8 Inv-loop μ-loop Inv-blocks2 μ-blocks2
+mul-whole8 c = search needs
 
-add-read8 : tie.Need-add-read8 Inv-loop μ-loop Inv-blocks2 μ-blocks2
-add-read8 c = search needs
+add-whole8 : tie.Need-add-whole8 Inv-loop μ-loop Inv-blocks2 μ-blocks2
+add-whole8 c = search needs
 
-mul-read8-2 : tie.Need-mul-read8-2 Inv-loop μ-loop Inv-blocks2 μ-blocks2
-mul-read8-2 c = search needs
+mul-whole8-2 : tie.Need-mul-whole8-2 Inv-loop μ-loop Inv-blocks2 μ-blocks2
+mul-whole8-2 c = search needs
 
-read8-requires : tie.Need-read8-requires Inv-loop μ-loop Inv-blocks2 μ-blocks2
-read8-requires c κs = search needs
+whole8-requires : tie.Need-whole8-requires Inv-loop μ-loop Inv-blocks2 μ-blocks2
+whole8-requires c κs = search needs
 
 mixed-requires : tie.Need-mixed-requires Inv-loop μ-loop Inv-blocks2 μ-blocks2
 mixed-requires c κs = search needs
@@ -52,7 +52,7 @@ loop-less c = search needs
 loop-again : tie.Need-loop-again Inv-loop μ-loop Inv-blocks2 μ-blocks2
 loop-again c =
     let at = c .before .before .before .loop in
-    let r = c .before .read8 in
+    let r = c .before .whole8 in
     ⊎-elim
     (λ w. turn-mix _ _ (r .result) (at .inv) (r .ensures) _ (w .0 .taken) (w .2 ∙ w .1 .ensures))
     (λ w. turn-end _ _ (r .result) (at .inv) (r .ensures) _ (w .0 .left) (c .before .before .loop-test .taken) (w .1 .left))
@@ -76,7 +76,7 @@ returns-2 : tie.Need-returns-2 Inv-loop μ-loop Inv-blocks2 μ-blocks2
 returns-2 c =
     let r = c .before .before in
     let at = r .before .before in
-    sym (here _ _ _ (omega arith) (turn-bad _ _ (r .read8 .result) (at .loop .inv) (r .read8 .ensures) (c .before .if1 .left) (r .before .loop-test .taken) (c .if2 .taken)))
+    sym (here _ _ _ (omega arith) (turn-bad _ _ (r .whole8 .result) (at .loop .inv) (r .whole8 .ensures) (c .before .if1 .left) (r .before .loop-test .taken) (c .if2 .taken)))
     ∙ at .before .before .blocks2 .inv .1
 
 pub first-bad-spec : {M : Type 1} → statement M
@@ -89,10 +89,10 @@ first-bad-spec =
     μ-blocks2
     blocks2-holds
     loop-holds
-    mul-read8
-    add-read8
-    mul-read8-2
-    read8-requires
+    mul-whole8
+    add-whole8
+    mul-whole8-2
+    whole8-requires
     mixed-requires
     add-j
     loop-less

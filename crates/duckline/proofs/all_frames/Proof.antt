@@ -1,4 +1,4 @@
--- `all_frames` is safe and ends: less than a frame is held from read to read. The measure is the number of turns that are left.
+-- `all_frames` is safe and ends: less than a frame of eight channels is held from read to read. The measure is the number of turns that are left.
 use Prim.Native.Nat.{_<_}
 use native.Mathlib.Omega.{arith}
 use borrow.Author.Needs.{needs}
@@ -8,10 +8,13 @@ use Rattle.duckline.proofs.all_frames.Statement.{statement}
 use Rattle.duckline.proofs.all_frames.Tie as tie
 
 abbrev Inv-loop : tie.InvT-loop
-Inv-loop buffer₀ text₀ run₀ held₀ turns₀ buffer text run held turns = held < 3840
+Inv-loop buffer₀ text₀ run₀ held₀ turns₀ buffer text run held turns = held < 17280
 
 abbrev μ-loop : tie.MeasureT-loop
 μ-loop buffer₀ text₀ run₀ held₀ turns₀ buffer text run held turns = turns
+
+layout-requires : tie.Need-layout-requires Inv-loop μ-loop
+layout-requires c κs = search needs
 
 fresh-run-requires : tie.Need-fresh-run-requires Inv-loop μ-loop
 fresh-run-requires c κs = search needs
@@ -61,6 +64,7 @@ all-frames-spec =
     (tie.spec
     Inv-loop
     μ-loop
+    layout-requires
     fresh-run-requires
     loop-holds
     read-requires

@@ -1,81 +1,83 @@
--- `strand` meets its contract: the first k places have the strand's samples.
-use Prim.Native.Nat.{_≤_, _-_}
+-- `strand` meets its contract: the part of the buffer that has the strand, or what there is of it.
+use mathlib.Core.List.{List}
+use mathlib.Core.Path.{ap, _∙_}
+use Prim.Native.Nat.{_+_, _-_}
 use native.Mathlib.Omega.{arith}
-use mathlib.Core.Path.{_≡_, refl, sym, _∙_}
-use lib.Ieee.{nan}
-use lib.ListN.{length, take, length-set}
+use lib.Ieee.{Float}
+use lib.Seq.{paste}
 use borrow.Author.Needs.{needs}
-use Rattle.sequence.proofs.Fill.{fill-turn, fill-end}
-use Rattle.frame_bytes.specs.Bytes.{strandAt}
-use Rattle.frame_bytes.proofs.Samples.{strand-length, strand-sample}
+use Rattle.frame_bytes.proofs.Samples.{samples-part, samples-tail}
 use Rattle.frame_bytes.proofs.strand.Statement.{statement}
 use Rattle.frame_bytes.proofs.strand.Tie as tie
 
-abbrev Inv-loop : tie.InvT-loop
-Inv-loop buffer first x₀ k₀ x k = (k ≤ 480) × (length x ≡ 480) × (take k x ≡ take k (strandAt buffer first))
+sub-if1 : tie.Need-sub-if1
+sub-if1 c = search needs
 
-abbrev μ-loop : tie.MeasureT-loop
-μ-loop buffer first x₀ k₀ x k = 480 - k
+add-end : tie.Need-add-end
+add-end c = search needs
 
-no-samples-requires : tie.Need-no-samples-requires Inv-loop μ-loop
-no-samples-requires c κs = search needs
+sub-put : tie.Need-sub-put
+sub-put c = search needs
 
-loop-holds : tie.Need-loop-holds Inv-loop μ-loop
-loop-holds c = (omega arith, c .no-samples .ensures, refl)
+part-put-start : tie.Need-part-put-start
+part-put-start c = search needs
 
-mul-sample : tie.Need-mul-sample Inv-loop μ-loop
-mul-sample c = search needs
+part-put-end : tie.Need-part-put-end
+part-put-end c = search needs
 
-add-sample : tie.Need-add-sample Inv-loop μ-loop
-add-sample c = search needs
+put-requires : tie.Need-put-requires
+put-requires c κs = search needs
 
-sample-requires : tie.Need-sample-requires Inv-loop μ-loop
-sample-requires c κs = search needs
+same-length : tie.Need-same-length
+same-length c = search needs
 
-mul-x : tie.Need-mul-x Inv-loop μ-loop
-mul-x c = search needs
-
-array-write-x : tie.Need-array-write-x Inv-loop μ-loop
-array-write-x c = search needs
-
-add-k : tie.Need-add-k Inv-loop μ-loop
-add-k c = search needs
-
-loop-less : tie.Need-loop-less Inv-loop μ-loop
-loop-less c = search needs
-
-loop-again : tie.Need-loop-again Inv-loop μ-loop
-loop-again c =
-    let l = c .before .before .loop in
-    let a = c .before .before .before .before .args in
-    let b = a .buffer .now in
-    let xs = strandAt b (a .first) in
-    let y = c .sample in (
-      omega arith,
-      length-set (l .x) (l .k) _ ∙ l .inv .1,
-      fill-turn nan (l .x) xs (y .result) (l .k) (l .inv .2) (y .ensures ∙ sym (strand-sample b (a .first) (l .k) (omega arith))) (omega arith) (omega (arith, strand-length b (a .first))),
-    )
-
-returns : tie.Need-returns Inv-loop μ-loop
+returns : tie.Need-returns
 returns c =
-    let l = c .before .loop in
-    let a = c .before .before .before .args in
-    fill-end (l .x) (strandAt (a .buffer .now) (a .first)) (l .k) (l .inv .2) (omega arith) (omega (arith, strand-length (a .buffer .now) (a .first)))
+    let a = c .before .before .before .before .before .before .before .before .args in
+    c .before .before .put .ensures
+    ∙ ap (λ (l : List Float). paste (a .x .now) (a .to) l 480) (samples-part (a .buffer .now) (a .first) (a .first + 1920 - a .first) 480 (omega (arith, c .before .before .before .before .before .before .bytes .given .0, c .before .before .before .before .before .if1 .taken)) (omega arith))
+
+least-requires : tie.Need-least-requires
+least-requires c κs = search needs
+
+sub-put-2 : tie.Need-sub-put-2
+sub-put-2 c = search needs
+
+part-put-start-2 : tie.Need-part-put-start-2
+part-put-start-2 c = search needs
+
+part-put-end-2 : tie.Need-part-put-end-2
+part-put-end-2 c = search needs
+
+put-requires-2 : tie.Need-put-requires-2
+put-requires-2 c κs = search needs
+
+same-length-2 : tie.Need-same-length-2
+same-length-2 c = search needs
+
+returns-2 : tie.Need-returns-2
+returns-2 c =
+    let a = c .before .before .before .before .before .before .before .before .before .args in
+    let s = c .before .before .before .before .before .least in
+    c .before .before .put2 .ensures
+    ∙ ap (λ (l : List Float). paste (a .x .now) (a .to) l 480) (samples-tail (a .buffer .now) (a .first) (s .result) 480 (omega (arith, s .ensures, c .before .before .before .before .before .before .before .bytes .given .0)))
 
 pub strand-spec : {M : Type 1} → statement M
 strand-spec =
     tie.close
     (tie.spec
-    Inv-loop
-    μ-loop
-    no-samples-requires
-    loop-holds
-    mul-sample
-    add-sample
-    sample-requires
-    mul-x
-    array-write-x
-    add-k
-    loop-less
-    loop-again
-    returns)
+    sub-if1
+    add-end
+    sub-put
+    part-put-start
+    part-put-end
+    put-requires
+    same-length
+    returns
+    least-requires
+    sub-put-2
+    part-put-start-2
+    part-put-end-2
+    put-requires-2
+    same-length-2
+    returns-2)

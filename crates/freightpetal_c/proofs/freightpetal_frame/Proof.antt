@@ -1,14 +1,11 @@
--- `freightpetal_frame` meets its contract: restored, then by the verdict.
+-- `freightpetal_frame` meets its contract: opened, then by the verdict.
 use Rattle.freightpetal_c.proofs.Lent.{frame-opened, frame-closed}
 use borrow.Author.Needs.{needs}
 use Rattle.freightpetal_c.proofs.freightpetal_frame.Statement.{statement}
 use Rattle.freightpetal_c.proofs.freightpetal_frame.Tie as tie
 
-new-requires : tie.Need-new-requires
-new-requires c κs = search needs
-
-restore-requires : tie.Need-restore-requires
-restore-requires c κs = search needs
+open-requires : tie.Need-open-requires
+open-requires c κs = search needs
 
 enum-told : tie.Need-enum-told
 enum-told c = search needs
@@ -29,20 +26,19 @@ same-length : tie.Need-same-length
 same-length c = search needs
 
 returns : tie.Need-returns
-returns c = frame-opened _ _ (c .before .before .before .before .before .before .before .before .before .restore .ensures .0) (c .before .before .before .before .before .before .before .before .before .before .before .new .ensures) _ _ _ (c .before .before .before .before .before .before .enum-told .given .1) (c .before .before .before .before .frame .ensures .0) (c .before .before .framed .ensures)
+returns c = frame-opened _ _ (c .before .before .before .before .before .before .before .before .before .«open» .ensures) _ _ _ (c .before .before .before .before .before .before .enum-told .given .1) (c .before .before .before .before .frame .ensures .0) (c .before .before .framed .ensures)
 
 same-length-2 : tie.Need-same-length-2
 same-length-2 c = search needs
 
 returns-2 : tie.Need-returns-2
-returns-2 c = frame-closed _ _ (c .before .before .before .before .before .restore .ensures .0) (c .before .before .before .before .before .before .before .new .ensures) _ _ _ (c .before .before .verdict .given .1) (c .number .ensures)
+returns-2 c = frame-closed _ _ (c .before .before .before .before .before .«open» .ensures) _ _ _ (c .before .before .verdict .given .1) (c .number .ensures)
 
 pub freightpetal-frame-spec : {M : Type 1} → statement M
 freightpetal-frame-spec =
     tie.close
     (tie.spec
-    new-requires
-    restore-requires
+    open-requires
     enum-told
     frame-requires
     framed-requires

@@ -1,14 +1,12 @@
--- `freightpetal_reset` meets its contract: restored, then by the verdict.
-use Rattle.freightpetal_c.proofs.Lent.{reset-opened, reset-closed}
+-- `freightpetal_reset` meets its contract: opened, then by the verdict.
+use Rattle.chain.specs.Chain.{resetOf}
+use Rattle.freightpetal_c.proofs.Lent.{change-opened, change-closed}
 use borrow.Author.Needs.{needs}
 use Rattle.freightpetal_c.proofs.freightpetal_reset.Statement.{statement}
 use Rattle.freightpetal_c.proofs.freightpetal_reset.Tie as tie
 
-new-requires : tie.Need-new-requires
-new-requires c κs = search needs
-
-restore-requires : tie.Need-restore-requires
-restore-requires c κs = search needs
+open-requires : tie.Need-open-requires
+open-requires c κs = search needs
 
 enum-told : tie.Need-enum-told
 enum-told c = search needs
@@ -29,20 +27,19 @@ same-length : tie.Need-same-length
 same-length c = search needs
 
 returns : tie.Need-returns
-returns c = reset-opened _ _ (c .before .before .before .before .before .before .before .before .restore .ensures .0) (c .before .before .before .before .before .before .before .before .before .before .new .ensures) _ (c .before .before .before .before .before .enum-told .given .1) (c .before .before .before .reset .ensures .0) (c .before .before .changed .ensures)
+returns c = change-opened _ _ (c .before .before .before .before .before .before .before .before .«open» .ensures) (λ d. resetOf d (c .before .before .before .before .before .before .before .before .before .before .before .args .strand)) (c .before .before .before .before .before .enum-told .given .1) (c .before .before .before .reset .ensures .0) (c .before .before .changed .ensures)
 
 same-length-2 : tie.Need-same-length-2
 same-length-2 c = search needs
 
 returns-2 : tie.Need-returns-2
-returns-2 c = reset-closed _ _ (c .before .before .before .before .before .restore .ensures .0) (c .before .before .before .before .before .before .before .new .ensures) _ (c .before .before .verdict .given .1) (c .number .ensures)
+returns-2 c = change-closed _ _ (c .before .before .before .before .before .«open» .ensures) (λ d. resetOf d (c .before .before .before .before .before .before .before .before .args .strand)) (c .before .before .verdict .given .1) (c .number .ensures)
 
 pub freightpetal-reset-spec : {M : Type 1} → statement M
 freightpetal-reset-spec =
     tie.close
     (tie.spec
-    new-requires
-    restore-requires
+    open-requires
     enum-told
     reset-requires
     changed-requires

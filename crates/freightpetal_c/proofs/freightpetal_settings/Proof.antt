@@ -1,14 +1,14 @@
--- `freightpetal_settings` meets its contract: restored, then by the verdict.
-use Rattle.freightpetal_c.proofs.Lent.{set-opened, set-closed}
+-- `freightpetal_settings` meets its contract: opened, then by the verdict.
+use mathlib.Core.Path.{ap, _∙_}
+use Rattle.chain.specs.Chain.{setOf}
+use Rattle.words.specs.Words.{settingsFrom}
+use Rattle.freightpetal_c.proofs.Lent.{change-opened, change-closed}
 use borrow.Author.Needs.{needs}
 use Rattle.freightpetal_c.proofs.freightpetal_settings.Statement.{statement}
 use Rattle.freightpetal_c.proofs.freightpetal_settings.Tie as tie
 
-new-requires : tie.Need-new-requires
-new-requires c κs = search needs
-
-restore-requires : tie.Need-restore-requires
-restore-requires c κs = search needs
+open-requires : tie.Need-open-requires
+open-requires c κs = search needs
 
 enum-told : tie.Need-enum-told
 enum-told c = search needs
@@ -32,20 +32,19 @@ same-length : tie.Need-same-length
 same-length c = search needs
 
 returns : tie.Need-returns
-returns c = set-opened _ _ (c .before .before .before .before .before .before .before .before .before .restore .ensures .0) (c .before .before .before .before .before .before .before .before .before .before .before .new .ensures) _ (c .before .before .before .before .before .before .enum-told .given .1) (c .before .before .before .before .settings .ensures) (c .before .before .before .set .ensures .0) (c .before .before .changed .ensures)
+returns c = change-opened _ _ (c .before .before .before .before .before .before .before .before .before .«open» .ensures) (λ d. setOf d (settingsFrom (c .before .before .before .before .before .before .before .before .before .before .before .before .args .settings .now))) (c .before .before .before .before .before .before .enum-told .given .1) (c .before .before .before .set .ensures .0 ∙ ap (setOf _) (c .before .before .before .before .settings .ensures)) (c .before .before .changed .ensures)
 
 same-length-2 : tie.Need-same-length-2
 same-length-2 c = search needs
 
 returns-2 : tie.Need-returns-2
-returns-2 c = set-closed _ _ (c .before .before .before .before .before .restore .ensures .0) (c .before .before .before .before .before .before .before .new .ensures) _ (c .before .before .verdict .given .1) (c .number .ensures)
+returns-2 c = change-closed _ _ (c .before .before .before .before .before .«open» .ensures) (λ d. setOf d (settingsFrom (c .before .before .before .before .before .before .before .before .args .settings .now))) (c .before .before .verdict .given .1) (c .number .ensures)
 
 pub freightpetal-settings-spec : {M : Type 1} → statement M
 freightpetal-settings-spec =
     tie.close
     (tie.spec
-    new-requires
-    restore-requires
+    open-requires
     enum-told
     settings-requires
     set-requires

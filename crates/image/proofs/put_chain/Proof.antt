@@ -15,6 +15,9 @@ put-requires c κs = search needs
 put-body-requires : tie.Need-put-body-requires
 put-body-requires c κs = search needs
 
+put-surround-requires : tie.Need-put-surround-requires
+put-surround-requires c κs = search needs
+
 put-zeros-requires : tie.Need-put-zeros-requires
 put-zeros-requires c κs = search needs
 
@@ -24,9 +27,10 @@ same-length c = search needs
 returns : tie.Need-returns
 unfolding chain
 returns c =
-    then (single (c .before .before .before .before .before .before .before .before .before .before .put .ensures)) (omega arith)
-    (then (c .before .before .before .before .before .before .put-body .ensures) (omega arith)
-    (these unusedWords (length-replicate {A = ℕ} unusedWords 0) (c .before .before .put-zeros .ensures)))
+    then (single (c .before .before .before .before .before .before .before .before .before .before .before .before .before .before .put .ensures)) (omega arith)
+    (then (c .before .before .before .before .before .before .before .before .before .before .put-body .ensures) (omega arith)
+    (then (c .before .before .before .before .before .before .put-surround .ensures) (omega arith)
+    (these unusedWords (length-replicate {A = ℕ} unusedWords 0) (c .before .before .put-zeros .ensures))))
 
 pub put-chain-spec : {M : Type 1} → statement M
-put-chain-spec = tie.close (tie.spec put-requires put-body-requires put-zeros-requires same-length returns)
+put-chain-spec = tie.close (tie.spec put-requires put-body-requires put-surround-requires put-zeros-requires same-length returns)

@@ -1,5 +1,6 @@
--- `image::restore` meets its contract: read, written again, and compared.
+-- `image::restore` meets its contract: read, its words written again, and compared.
 use mathlib.Core.Path.{refl}
+use Rattle.blocks.specs.Lists.{Bytes}
 use Rattle.image.proofs.Calls.{wrong-length, bad-check, good, foreign}
 use borrow.Author.Needs.{needs}
 use Rattle.image.proofs.restore.Statement.{statement}
@@ -20,33 +21,40 @@ slice-aggregate-payload c = search needs
 payload-requires : tie.Need-payload-requires
 payload-requires c κs = search needs
 
-slice-aggregate-get-chain : tie.Need-slice-aggregate-get-chain
-slice-aggregate-get-chain c = search needs
+slice-aggregate-get-either : tie.Need-slice-aggregate-get-either
+slice-aggregate-get-either c = search needs
 
-get-chain-requires : tie.Need-get-chain-requires
-get-chain-requires c κs = search needs
+get-either-requires : tie.Need-get-either-requires
+get-either-requires c κs = search needs
 
-slice-aggregate-save : tie.Need-slice-aggregate-save
-slice-aggregate-save c = search needs
+slice-aggregate-put-either : tie.Need-slice-aggregate-put-either
+slice-aggregate-put-either c = search needs
 
-save-requires : tie.Need-save-requires
-save-requires c κs = search needs
+put-either-requires : tie.Need-put-either-requires
+put-either-requires c κs = search needs
 
-slice-aggregate-same : tie.Need-slice-aggregate-same
-slice-aggregate-same c = search needs
+slice-aggregate-same-words : tie.Need-slice-aggregate-same-words
+slice-aggregate-same-words c = search needs
 
-same-requires : tie.Need-same-requires
-same-requires c κs = search needs
+slice-aggregate-same-words-2 : tie.Need-slice-aggregate-same-words-2
+slice-aggregate-same-words-2 c = search needs
+
+same-words-requires : tie.Need-same-words-requires
+same-words-requires c κs = search needs
 
 returns-3 : tie.Need-returns-3
 returns-3 c =
-    good _ _ _ _ _ _ _ _ _ (c .before .before .before .before .before .before .before .before .before .before .before .before .before .if1 .left) (c .before .before .before .before .before .before .before .before .before .before .before .before .first-bad .ensures) (c .before .before .before .before .before .before .before .before .before .before .before .if2 .left) refl
-    (c .before .before .before .before .before .before .before .before .before .payload .ensures) (c .before .before .before .before .before .before .get-chain .ensures) refl (c .before .before .before .before .save .ensures .1) (c .before .same .ensures) (c .if3 .taken)
+    let q = c .before .before .before .before .before .before .before .before .before .before .before .before .before .before .before .shared-slice-known .given in
+    let s : Bytes (c .before .before .before .before .before .before .before .before .before .before .before .before .before .before .before .before .args .b .now) = λ k. q k .fits in
+    good _ _ _ _ _ _ _ _ _ s (c .before .before .before .before .before .before .before .before .before .before .before .before .before .before .if1 .left) (c .before .before .before .before .before .before .before .before .before .before .before .before .before .first-bad .ensures) (c .before .before .before .before .before .before .before .before .before .before .before .before .if2 .left) refl
+    (c .before .before .before .before .before .before .before .before .before .before .payload .ensures) refl (c .before .before .before .before .before .before .before .get-either .ensures) (c .before .before .before .before .before .put-either .ensures) (c .before .same-words .ensures) (c .if3 .taken)
 
 returns-4 : tie.Need-returns-4
 returns-4 c =
-    foreign _ _ _ _ _ _ _ _ _ (c .before .before .before .before .before .before .before .before .before .before .before .before .before .if1 .left) (c .before .before .before .before .before .before .before .before .before .before .before .before .first-bad .ensures) (c .before .before .before .before .before .before .before .before .before .before .before .if2 .left) refl
-    (c .before .before .before .before .before .before .before .before .before .payload .ensures) (c .before .before .before .before .before .before .get-chain .ensures) refl (c .before .before .before .before .save .ensures .1) (c .before .same .ensures) (c .if3 .left)
+    let q = c .before .before .before .before .before .before .before .before .before .before .before .before .before .before .before .shared-slice-known .given in
+    let s : Bytes (c .before .before .before .before .before .before .before .before .before .before .before .before .before .before .before .before .args .b .now) = λ k. q k .fits in
+    foreign _ _ _ _ _ _ _ _ _ s (c .before .before .before .before .before .before .before .before .before .before .before .before .before .before .if1 .left) (c .before .before .before .before .before .before .before .before .before .before .before .before .before .first-bad .ensures) (c .before .before .before .before .before .before .before .before .before .before .before .before .if2 .left) refl
+    (c .before .before .before .before .before .before .before .before .before .before .payload .ensures) refl (c .before .before .before .before .before .before .before .get-either .ensures) (c .before .before .before .before .before .put-either .ensures) (c .before .same-words .ensures) (c .if3 .left)
 
 pub restore-spec : {M : Type 1} → statement M
-restore-spec = tie.close (tie.spec returns first-bad-requires returns-2 slice-aggregate-payload payload-requires slice-aggregate-get-chain get-chain-requires slice-aggregate-save save-requires slice-aggregate-same same-requires returns-3 returns-4)
+restore-spec = tie.close (tie.spec returns first-bad-requires returns-2 slice-aggregate-payload payload-requires slice-aggregate-get-either get-either-requires slice-aggregate-put-either put-either-requires slice-aggregate-same-words slice-aggregate-same-words-2 same-words-requires returns-3 returns-4)

@@ -1,4 +1,4 @@
--- `restore_of` is safe: the array has 10,753 bytes.
+-- `restore_of` is safe: the array has 11,265 bytes.
 use mathlib.Core.Path.{sym}
 use native.Mathlib.Omega.{arith}
 use lib.Seq.{length-take-le}

@@ -1,4 +1,4 @@
--- `run` is safe: both arrays have 481 samples.
+-- `run` is safe: both arrays have 3,841 samples.
 use mathlib.Core.Path.{sym}
 use native.Mathlib.Omega.{arith}
 use lib.Seq.{length-take-le}

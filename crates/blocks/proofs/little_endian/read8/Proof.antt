@@ -6,17 +6,20 @@ use borrow.Author.Needs.{needs}
 use Rattle.blocks.proofs.little_endian.read8.Statement.{statement}
 use Rattle.blocks.proofs.little_endian.read8.Tie as tie
 
-whole4-requires : tie.Need-whole4-requires
-whole4-requires c κs = search needs
+whole8-requires : tie.Need-whole8-requires
+whole8-requires c κs = search needs
+
+returns : tie.Need-returns
+returns c = search needs
+
+part4-requires : tie.Need-part4-requires
+part4-requires c κs = search needs
 
 cast-result : tie.Need-cast-result
 cast-result c = search needs
 
-add-whole4 : tie.Need-add-whole4
-add-whole4 c = search needs
-
-whole4-requires-2 : tie.Need-whole4-requires-2
-whole4-requires-2 c κs = search needs
+part4-requires-2 : tie.Need-part4-requires-2
+part4-requires-2 c κs = search needs
 
 cast-result-2 : tie.Need-cast-result-2
 cast-result-2 c = search needs
@@ -27,28 +30,6 @@ mul-result c = search needs
 add-result : tie.Need-add-result
 add-result c = search needs
 
-returns : tie.Need-returns
-unfolding word8
-returns c = omega arith
-
-part4-requires : tie.Need-part4-requires
-part4-requires c κs = search needs
-
-cast-result-3 : tie.Need-cast-result-3
-cast-result-3 c = search needs
-
-part4-requires-2 : tie.Need-part4-requires-2
-part4-requires-2 c κs = search needs
-
-cast-result-4 : tie.Need-cast-result-4
-cast-result-4 c = search needs
-
-mul-result-2 : tie.Need-mul-result-2
-mul-result-2 c = search needs
-
-add-result-2 : tie.Need-add-result-2
-add-result-2 c = search needs
-
 returns-2 : tie.Need-returns-2
 unfolding word8
 returns-2 c = omega (arith, rw add-zero at (c .before .part4 .ensures))
@@ -57,18 +38,12 @@ pub read8-spec : {M : Type 1} → statement M
 read8-spec =
     tie.close
     (tie.spec
-    whole4-requires
+    whole8-requires
+    returns
+    part4-requires
     cast-result
-    add-whole4
-    whole4-requires-2
+    part4-requires-2
     cast-result-2
     mul-result
     add-result
-    returns
-    part4-requires
-    cast-result-3
-    part4-requires-2
-    cast-result-4
-    mul-result-2
-    add-result-2
     returns-2)

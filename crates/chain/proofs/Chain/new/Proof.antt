@@ -12,9 +12,12 @@ new-requires-2 c κs = search needs
 new-requires-3 : tie.Need-new-requires-3
 new-requires-3 c κs = search needs
 
+new-requires-4 : tie.Need-new-requires-4
+new-requires-4 c κs = search needs
+
 returns : tie.Need-returns
 returns c =
-    rw (c .before .before .new .ensures, c .before .new2 .ensures, c .new3 .ensures)
+    rw (c .before .before .before .new .ensures, c .before .before .new2 .ensures, c .before .new3 .ensures, c .new4 .ensures)
 
 pub new-spec : {M : Type 1} → statement M
-new-spec = tie.close (tie.spec new-requires new-requires-2 new-requires-3 returns)
+new-spec = tie.close (tie.spec new-requires new-requires-2 new-requires-3 new-requires-4 returns)

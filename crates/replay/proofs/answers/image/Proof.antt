@@ -1,4 +1,4 @@
--- `answers::image` is safe: 10,752 of 10,753 bytes.
+-- `answers::image` is safe: 11,264 of 11,265 bytes.
 use mathlib.Core.Path.{sym}
 use native.Mathlib.Omega.{arith}
 use lib.Seq.{length-take-le}
@@ -11,7 +11,7 @@ code-requires c κs = search needs
 
 slice-aggregate-write-all : tie.Need-slice-aggregate-write-all
 slice-aggregate-write-all c =
-    sym (length-take-le 10752 (c .before .before .before .before .args .lent .now) (omega (arith, c .before .before .before .whole .given)))
+    sym (length-take-le 11264 (c .before .before .before .before .args .lent .now) (omega (arith, c .before .before .before .whole .given)))
 
 write-all-requires : tie.Need-write-all-requires
 write-all-requires c κs = search needs

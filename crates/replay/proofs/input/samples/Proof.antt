@@ -5,10 +5,10 @@ use Rattle.replay.proofs.input.samples.Statement.{statement}
 use Rattle.replay.proofs.input.samples.Tie as tie
 
 abbrev Inv-loop : tie.InvT-loop
-Inv-loop b to₀ k₀ to k = k ≤ 481
+Inv-loop b n to₀ k₀ to k = k ≤ n
 
 abbrev μ-loop : tie.MeasureT-loop
-μ-loop b to₀ k₀ to k = 481 - k
+μ-loop b n to₀ k₀ to k = n - k
 
 loop-holds : tie.Need-loop-holds Inv-loop μ-loop
 loop-holds c = search needs

@@ -1,0 +1,2 @@
+pub mod Beds
+pub mod Laws

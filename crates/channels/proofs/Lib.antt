@@ -1,0 +1,16 @@
+pub mod Cut
+pub mod Weighings
+pub mod Sums
+pub mod Runs
+pub mod Resting
+pub mod Alone
+pub mod Bed
+pub mod Added
+pub mod Deque
+pub mod Shares
+pub mod Behind
+pub mod Bs1770
+pub mod Layouts
+pub mod Single
+pub mod Valid
+pub mod Promised

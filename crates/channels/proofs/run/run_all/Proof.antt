@@ -1,0 +1,47 @@
+-- `run_all` meets its contract: whatever order the channels are run in, all are.
+use native.Mathlib.Omega.{arith}
+use borrow.Author.Needs.{needs}
+use Rattle.channels.proofs.run.run_all.Statement.{statement}
+use Rattle.channels.proofs.run.run_all.Tie as tie
+
+run-rest-requires : tie.Need-run-rest-requires
+run-rest-requires c κs = search needs
+
+returns : tie.Need-returns
+returns c = λ ok. c .run-rest .ensures ok
+
+mul-if2 : tie.Need-mul-if2
+mul-if2 c = search needs
+
+run-rest-requires-2 : tie.Need-run-rest-requires-2
+run-rest-requires-2 c κs = search needs
+
+returns-2 : tie.Need-returns-2
+returns-2 c = λ ok. c .run-rest2 .ensures ok
+
+run-quiet-requires : tie.Need-run-quiet-requires
+run-quiet-requires c κs = search needs
+
+run-fours-requires : tie.Need-run-fours-requires
+run-fours-requires c κs =
+    (omega arith, omega arith, omega arith)
+
+run-rest-requires-3 : tie.Need-run-rest-requires-3
+run-rest-requires-3 c κs = omega arith
+
+returns-3 : tie.Need-returns-3
+returns-3 c = λ ok. c .run-rest3 .ensures (c .before .run-fours .ensures (c .before .before .run-quiet .ensures ok))
+
+pub run-all-spec : {M : Type 1} → statement M
+run-all-spec =
+    tie.close
+    (tie.spec
+    run-rest-requires
+    returns
+    mul-if2
+    run-rest-requires-2
+    returns-2
+    run-quiet-requires
+    run-fours-requires
+    run-rest-requires-3
+    returns-3)

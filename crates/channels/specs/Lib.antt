@@ -1,0 +1,10 @@
+pub mod Bs1770
+pub mod Channels
+pub mod Surround
+pub mod Deque
+pub mod Heard
+pub mod Valid
+pub mod Laws
+pub mod Pairs
+pub mod Rest
+pub mod Runs

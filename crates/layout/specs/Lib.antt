@@ -1,0 +1,4 @@
+pub mod Layout
+pub mod Weights
+pub mod Valid
+pub mod Laws

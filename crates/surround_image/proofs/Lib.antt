@@ -1,0 +1,4 @@
+pub mod Codecs
+pub mod Valid
+pub mod Words
+pub mod Rules

@@ -1,0 +1,2 @@
+pub mod Surround
+pub mod Words
