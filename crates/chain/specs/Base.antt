@@ -1,7 +1,7 @@
 -- A chain whose bed is one channel at 0, 0, as it was before beds had layouts: what it stores, and its frames, settings calls and resets. The
 -- specification's edition 1 of the image holds such a chain.
 use Prim.Native.Nat.{ℕ}
-use mathlib.Core.Bool.{Bool, cond, not, _&&_, _||_}
+use mathlib.Core.Bool.{Bool, cond, _&&_, _||_}
 use mathlib.Core.List.{List}
 use lib.Dec.{eqb}
 use lib.Ieee.{Float}

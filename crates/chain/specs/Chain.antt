@@ -1,5 +1,5 @@
 -- A chain's calls: fresh, a frame, a settings call, a reset, a layout call. A refused call leaves the chain as it was.
-use Prim.Native.Nat.{ℕ, _*_, min, max}
+use Prim.Native.Nat.{ℕ, _*_}
 use mathlib.Core.Bool.{Bool, cond, _&&_, _||_}
 use mathlib.Core.List.{List}
 use lib.Dec.{eqb}
@@ -108,9 +108,9 @@ fullIn w = w .key .full || w .bed .full
 unfoldable pub judgedOf : Chain → Worked → Framed
 judgedOf c w = cond (finiteIn w) (cond (fullIn w) (refusedOf c CounterFull) (passedOf c w)) (refusedOf c Runaway)
 
--- 480 samples for each channel of the layout in force; every layout that is accepted has 1 to 8
+-- 480 samples for each channel of the layout in force
 abbrev pub channelCount : Chain → ℕ
-channelCount c = max (min (c .surround .layout .count) layout.most) 1
+channelCount c = layout.channelCount (c .surround .layout .count)
 
 abbrev pub bedLength : Chain → ℕ
 bedLength c = channelCount c * frameLength

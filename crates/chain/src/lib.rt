@@ -1,14 +1,13 @@
 // A chain: the key strand (0, the commentator), the bed strand (1) with its channels, the settings and the ducker. A frame, a settings call, a reset
 // or a layout call gets an answer or one refusal, and a refusal leaves the chain as it was.
 ghost use mathlib.Core.Path.{_≡_};
-ghost use lib.ListN.{length};
 ghost use lib.ListN.{take};
 ghost use Rattle.level.specs.Bs1770.{frameLength};
 ghost use Rattle.level.specs.Weighing.{runOf};
 ghost use Rattle.level.specs.Level.{startOf};
 ghost use Rattle.paired_filters.specs.Pairs.{weighingAt, bandsAt};
-ghost use Rattle.chain.specs.StrandFrames.{Whole, Heard, finishedOf, strandFramesOf};
-ghost use Rattle.chain.specs.Chain.{freshOf, inputsOf, workOf, refusedOf, passedOf, judgedOf, frameOf, setOf, resetOf, channelCount, bedLength, layoutOf};
+ghost use Rattle.chain.specs.StrandFrames.{Whole, filtersOf, pitchOf, finishedOf};
+ghost use Rattle.chain.specs.Chain.{freshOf, inputsOf, workOf, refusedOf, passedOf, frameOf, setOf, resetOf, channelCount, bedLength, layoutOf};
 use channels::Surround;
 use comis::loop_bank::Loops;
 use float::Db;
@@ -17,6 +16,7 @@ use level::FRAME;
 use level::Level;
 use paired_filters::Banded;
 use paired_filters::BandedPairs;
+use paired_filters::Filtered;
 use paired_filters::Side;
 use paired_filters::Weighed;
 use paired_filters::WeighedPairs;
@@ -72,24 +72,12 @@ pub struct StrandFrame {
     pub surround: Surround,
 }
 
-// Both strands after a frame.
-pub struct StrandFrames {
-    pub key: StrandFrame,
-    pub bed: StrandFrame,
-}
-
 // What a frame makes of a chain's strands and ducker, before anything of it is kept.
 pub struct Worked {
     pub key: vad::Framed,
     pub bed: vad::Framed,
     pub surround: Surround,
     pub duck: ratio::Framed,
-}
-
-fn no_outputs() -> [f64; FRAME]
-    ensures { λ r. ⌜ length r ≡ frameLength ⌝ }
-{
-    [0.0; FRAME]
 }
 
 // What follows the filters of one strand, which have heard its first channel: both strands' filters, which of them it is, the outputs of its pitch
@@ -159,15 +147,17 @@ impl Chain {
         }
     }
 
-    // Key strand and bed strand: the samples of the key and of the bed's first channel as f64, and those of all channels.
-    fn strand_frames(
+    // Both strands' filters over the samples of the key and of the bed's first channel; the outputs of their pitch filters go to `key_pitch` and
+    // `bed_pitch`.
+    fn filtered(
         self,
-        xs: &[f64; FRAME],
-        ys: &[f64; FRAME],
         key: &[f32],
         bed: &[f32],
-    ) -> StrandFrames
-        ensures { λ r. ⌜ (Heard (now (xs .entry)) (now (key .entry)) → Heard (now (ys .entry)) (now (bed .entry)) → r ≡ strandFramesOf self (now (xs .entry)) (now (ys .entry)) (now (key .entry)) (now (bed .entry))) ⌝ }
+        key_pitch: &mut [f64; FRAME],
+        bed_pitch: &mut [f64; FRAME],
+    ) -> Filtered
+        ensures { λ r. ⌜ (r ≡ filtersOf self (now (key .entry)) (now (bed .entry))) × (now («key_pitch» .exit) ≡ pitchOf (self .key) (now (key .entry)))
+            × (now («bed_pitch» .exit) ≡ pitchOf (self .bed) (now (bed .entry))) ⌝ }
     {
         let weighed = Weighed {
             key: self.key.level.start(),
@@ -177,41 +167,11 @@ impl Chain {
             key: self.key.detector.filters.begin(),
             bed: self.bed.detector.filters.begin(),
         };
-        let mut key_pitch = no_outputs();
-        let mut bed_pitch = no_outputs();
-        let f = paired_filters::filter_frame(
-            weighed,
-            banded,
-            xs,
-            ys,
-            &mut key_pitch,
-            &mut bed_pitch,
-        );
-        let w = f.weighed;
-        let b = f.banded;
-        let one = Surround::new();
-        StrandFrames {
-            key: finished(
-                self.key,
-                one,
-                w,
-                b,
-                Side::Key,
-                &key_pitch,
-                key,
-                self.settings.key,
-            ),
-            bed: finished(
-                self.bed,
-                self.surround,
-                w,
-                b,
-                Side::Bed,
-                &bed_pitch,
-                bed,
-                self.settings.bed,
-            ),
-        }
+        let mut xs = detector::no_samples();
+        let mut ys = detector::no_samples();
+        detector::samples(key, &mut xs);
+        detector::samples(bed, &mut ys);
+        paired_filters::filter_frame(weighed, banded, &xs, &ys, key_pitch, bed_pitch)
     }
 
     // Key strand, bed strand, then the ducker. `frame` has tested both slices.
@@ -219,12 +179,35 @@ impl Chain {
         requires { ⌜ Whole (channelCount self) (now key) (now bed) ⌝ }
         ensures { λ r. ⌜ r ≡ workOf self (now (key .entry)) (now (bed .entry)) ⌝ }
     {
-        let xs = detector::samples(key);
-        let ys = detector::samples(bed);
-        let s = self.strand_frames(&xs, &ys, key, bed);
-        let k = s.key.framed;
-        let b = s.bed.framed;
-        let surround = s.bed.surround;
+        let mut key_pitch = detector::no_samples();
+        let mut bed_pitch = detector::no_samples();
+        let f = self.filtered(key, bed, &mut key_pitch, &mut bed_pitch);
+        let weighed = f.weighed;
+        let banded = f.banded;
+        let one = Surround::new();
+        let key_frame = finished(
+            self.key,
+            one,
+            weighed,
+            banded,
+            Side::Key,
+            &key_pitch,
+            key,
+            self.settings.key,
+        );
+        let bed_frame = finished(
+            self.bed,
+            self.surround,
+            weighed,
+            banded,
+            Side::Bed,
+            &bed_pitch,
+            bed,
+            self.settings.bed,
+        );
+        let k = key_frame.framed;
+        let b = bed_frame.framed;
+        let surround = bed_frame.surround;
         Worked {
             key: k,
             bed: b,
@@ -276,24 +259,11 @@ impl Chain {
         }
     }
 
-    // Refusals 4 and 5, over both strands and the ducker, and else the frame passes.
-    fn judged(self, w: Worked) -> Framed
-        ensures { λ r. ⌜ r ≡ judgedOf self w ⌝ }
-    {
-        if w.key.finite & w.bed.finite & w.duck.finite {
-            if w.key.full | w.bed.full {
-                return self.refused(Refusal::CounterFull);
-            }
-            return self.passed(w);
-        }
-        self.refused(Refusal::Runaway)
-    }
-
     // How many samples a frame of the bed has: 480 for each channel of the layout in force.
     fn bed_length(self) -> usize
         ensures { λ r. ⌜ r ≡ bedLength self ⌝ }
     {
-        sequence::most(self.surround.layout.channels(), 1) * FRAME
+        layout::channel_count(self.surround.layout.count) * FRAME
     }
 
     // One frame: 480 samples of the key, and of each of the bed's channels, one channel after the other. Refusals 1, 2, 4, 5, in this order over both
@@ -301,13 +271,23 @@ impl Chain {
     pub fn frame(self, key: &[f32], bed: &[f32]) -> Framed
         ensures { λ r. ⌜ r ≡ frameOf self (now (key .entry)) (now (bed .entry)) ⌝ }
     {
-        if (key.len() == FRAME) & (bed.len() == self.bed_length()) {
-            if float::all_finite32(key) & float::all_finite32(bed) {
-                return self.judged(self.work(key, bed));
-            }
+        let whole = (key.len() == FRAME) & (bed.len() == self.bed_length());
+        if !whole {
+            return self.refused(Refusal::ShortFrame);
+        }
+        let sound = float::all_finite32(key) & float::all_finite32(bed);
+        if !sound {
             return self.refused(Refusal::BadSample);
         }
-        self.refused(Refusal::ShortFrame)
+        let w = self.work(key, bed);
+        let finite = w.key.finite & w.bed.finite & w.duck.finite;
+        if !finite {
+            return self.refused(Refusal::Runaway);
+        }
+        if w.key.full | w.bed.full {
+            return self.refused(Refusal::CounterFull);
+        }
+        self.passed(w)
     }
 
     // All settings are replaced, negative zero by zero. Refusal 3.
@@ -353,6 +333,7 @@ impl Chain {
             verdict: Verdict::Refused(Refusal::NoStrand),
         }
     }
+
     // The bed's layout is replaced, and its level begins anew; all else of the bed stays. Refusal 10.
     pub fn layout(self, l: Layout) -> Changed
         ensures { λ r. ⌜ r ≡ layoutOf self l ⌝ }

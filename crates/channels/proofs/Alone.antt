@@ -18,9 +18,10 @@ use Rattle.layout.specs.Layout.{most}
 use Rattle.layout.specs.Weights.{usedWeights}
 use Rattle.layout.proofs.Stored.{mono-weights}
 use Rattle.layout.proofs.Used.{used-one}
+use Rattle.channels.specs.declared.Channel.{Channel}
 use Rattle.channels.specs.declared.Surround.{Surround}
-use Rattle.channels.specs.Channels.{parts, weighings, joinAll, storedFinite, allStored, keptIn, JointFramed, finishJoint, jointFrameOf}
-use Rattle.channels.specs.Surround.{jointOf, bedFramedOf, bedFrameOf, oneFrameOf}
+use Rattle.channels.specs.Channels.{beginOf, keptOf, parts, weighings, weighingsOf, joinAll, storedFinite, allStored, keptIn, JointFramed, finishJoint, jointFrameOf}
+use Rattle.channels.specs.Surround.{jointOf, bedFramedOf, bedFrameOf, filteredBy, filteredOf, filteredOne}
 use Rattle.channels.specs.Heard.{OneIsLevel, MonoIsLevel}
 use Rattle.channels.proofs.Weighings.{weighings-none}
 
@@ -55,14 +56,28 @@ module _ (l : Level) (s : Surround) (weight : Float) where
 
 -- ---- as the code runs it
 
-pub one-is-bed : (l : Level) (s : Surround) (xs : List Float) (w : Weighing) → length (s .layout .places) ≡ most → s .layout .count ≡ 1
-    → w ≡ runOf (startOf l) (take 480 xs) → oneFrameOf s w (l .powers) ≡ bedFrameOf l s xs
-unfolding oneFrameOf bedFrameOf
-one-is-bed l s xs w e c h =
-    ap (λ (v : Weighing). oneFrameOf s v (l .powers)) h
+filtered-alone : (cs : List Channel) (c : Channel) (weight : Float) (w : Weighing) → filteredBy (c ∷ cs) (weight ∷ []) (w ∷ [])
+    ≡ record { joint = joinedOf noChannel weight w 480; finite = storedFinite w; own = keptOf w; others = cs }
+unfolding filteredBy joinAll keptIn allStored storedFinite
+filtered-alone cs c weight w = λ i. record { joint = joinedOf noChannel weight w 480; finite = and-true (storedFinite w) i; own = keptOf w; others = cs }
+
+one-filtered : (s : Surround) (c : Channel) (weight : Float) (xs : List Float)
+    → filteredBy (c ∷ s .others) (weight ∷ []) (weighingsOf (c ∷ s .others) 1 xs)
+    ≡ record { joint = joinedOf noChannel weight (runOf (beginOf c) (take 480 xs)) 480; finite = storedFinite (runOf (beginOf c) (take 480 xs)); own = keptOf (runOf (beginOf c) (take 480 xs)); others = s .others }
+unfolding weighings parts
+one-filtered s c weight xs =
+    let w = runOf (beginOf c) (take 480 xs) in
+    ap (λ (ws : List Weighing). filteredBy (c ∷ s .others) (weight ∷ []) (w ∷ ws)) (weighings-none (s .others))
+    ∙ filtered-alone (s .others) c weight w
+
+pub one-is-all : (s : Surround) (c : Channel) (xs : List Float) (w : Weighing) → length (s .layout .places) ≡ most → s .layout .count ≡ 1
+    → w ≡ runOf (beginOf c) (take 480 xs) → filteredOne s w ≡ filteredOf s c xs
+unfolding filteredOne filteredOf
+one-is-all s c xs w e n h =
+    ap (filteredOne s) h
     ∙ sym
-    (ap (λ (ws : List Float). bedFramedOf (s .layout) (jointFrameOf (jointOf l s) ws xs)) (used-one (s .layout) e c)
-    ∙ ap (bedFramedOf (s .layout)) (one-frame l s _ xs))
+    (ap (λ (ws : List Float). filteredBy (c ∷ s .others) ws (weighingsOf (c ∷ s .others) (length ws) xs)) (used-one (s .layout) e n)
+    ∙ one-filtered s c _ xs)
 
 -- ---- of weight 1
 

@@ -15,9 +15,10 @@ use Rattle.layout.specs.Weights.{usedWeights, weightsOf}
 use Rattle.layout.proofs.Used.{used-length, weights-used}
 use Rattle.channels.specs.declared.Channel.{Channel}
 use Rattle.channels.specs.declared.Surround.{Surround}
+use Rattle.channels.specs.declared.Filtered.{Filtered}
 use Rattle.channels.specs.declared.BedFramed.{BedFramed}
 use Rattle.channels.specs.Channels.{resting, weighingsOf, joinAll, allStored, keptIn, finishJoint, jointFrameOf}
-use Rattle.channels.specs.Surround.{ownOf, levelOf, bedFrameOf}
+use Rattle.channels.specs.Surround.{ownOf, levelOf, bedFrameOf, filteredBy, filteredOf}
 use Rattle.channels.specs.Runs.{pastChannel}
 
 -- the first of some channels, whatever an array answers past its end
@@ -26,34 +27,42 @@ unfolding keptIn
 first-of cs [] c = refl
 first-of cs (w ∷ ws) c = refl
 
--- what the code makes of all channels after the frame, and of what is read
-abbrev pub madeOf : Surround → List Channel → List Channel → Read → Bool → BedFramed
-madeOf s after others r stored = record {
-  framed = record { level = levelOf (getD after 0 pastChannel) (r .powers); reading = r .reading; finite = stored && r .finite };
-  surround = record { layout = s .layout; others = others };
-}
+-- ---- what the filters leave
 
-module _ (l : Level) (s : Surround) (xs : List Float) (e : length (s .layout .places) ≡ most) where
-  module _ (n : ℕ) (cs : List Channel) (weights : List Float) (ws : List Weighing) (after others : List Channel) (j : Joint) (r : Read) (stored : Bool) where
-    pub all-is-bed : n ≡ min (s .layout .count) most → cs ≡ ownOf l ∷ s .others → weights ≡ weightsOf (s .layout) → take n ws ≡ weighingsOf cs n xs
-        → after ≡ keptIn cs (take n ws) → others ≡ drop 1 after → j ≡ joinAll noChannel (take n weights) (take n ws) → r ≡ readOf j (l .powers) → stored ≡ allStored (take n ws)
-        → madeOf s after others r stored ≡ bedFrameOf l s xs
-    unfolding bedFrameOf jointFrameOf finishJoint
-    all-is-bed en ec ew run ea eo ej er es =
-        let all = ownOf l ∷ s .others in
+-- what the code makes of all channels after the frame, and of their sums
+abbrev pub madeOf : Joint → Bool → List Channel → List Channel → Filtered
+madeOf j stored after others = record { joint = j; finite = stored; own = getD after 0 pastChannel; others = others }
+
+module _ (s : Surround) (c : Channel) (xs : List Float) (e : length (s .layout .places) ≡ most) where
+  module _ (n : ℕ) (cs : List Channel) (weights : List Float) (ws : List Weighing) (after others : List Channel) (j : Joint) (stored : Bool) where
+    pub all-filtered : n ≡ min (s .layout .count) most → cs ≡ c ∷ s .others → weights ≡ weightsOf (s .layout) → take n ws ≡ weighingsOf cs n xs
+        → after ≡ keptIn cs (take n ws) → others ≡ drop 1 after → j ≡ joinAll noChannel (take n weights) (take n ws) → stored ≡ allStored (take n ws)
+        → madeOf j stored after others ≡ filteredOf s c xs
+    unfolding filteredOf filteredBy
+    all-filtered en ec ew run ea eo ej es =
+        let all = c ∷ s .others in
         let used = usedWeights (s .layout) in
         let count : n ≡ length used = en ∙ sym (used-length (s .layout) e) in
         let ran : take n ws ≡ weighingsOf all (length used) xs = run ∙ (λ i. weighingsOf (ec i) (count i) xs) in
         let bs : take n weights ≡ used = (λ i. take (en i) (ew i)) ∙ weights-used (s .layout) e in
-        let read : r ≡ readOf (joinAll noChannel used (weighingsOf all (length used) xs)) (l .powers) = er ∙ (λ i. readOf ((ej ∙ (λ k. joinAll noChannel (bs k) (ran k))) i) (l .powers)) in
         let kept : after ≡ keptIn all (weighingsOf all (length used) xs) = ea ∙ (λ i. keptIn (ec i) (ran i)) in
-        let fine : stored ≡ allStored (weighingsOf all (length used) xs) = es ∙ ap allStored ran in
-        (λ i. madeOf s (kept i) ((eo ∙ ap (drop 1) kept) i) (read i) (fine i))
-        ∙ ap (λ (c : Channel). record {
-          framed = record {
-            level = levelOf c (readOf (joinAll noChannel used (weighingsOf all (length used) xs)) (l .powers) .powers);
-            reading = readOf (joinAll noChannel used (weighingsOf all (length used) xs)) (l .powers) .reading;
-            finite = allStored (weighingsOf all (length used) xs) && readOf (joinAll noChannel used (weighingsOf all (length used) xs)) (l .powers) .finite;
-          };
-          surround = record { layout = s .layout; others = drop 1 (keptIn all (weighingsOf all (length used) xs)) };
-        }) (first-of (s .others) (weighingsOf all (length used) xs) (ownOf l))
+        (λ i. madeOf ((ej ∙ (λ k. joinAll noChannel (bs k) (ran k))) i) ((es ∙ ap allStored ran) i) (kept i) ((eo ∙ ap (drop 1) kept) i))
+        ∙ ap (λ (own : Channel). record {
+          joint = joinAll noChannel used (weighingsOf all (length used) xs);
+          finite = allStored (weighingsOf all (length used) xs);
+          own = own;
+          others = drop 1 (keptIn all (weighingsOf all (length used) xs));
+        }) (first-of (s .others) (weighingsOf all (length used) xs) c)
+
+-- ---- and what is read after them
+
+abbrev pub readAfter : Surround → Filtered → Read → BedFramed
+readAfter s f r = record {
+  framed = record { level = levelOf (f .own) (r .powers); reading = r .reading; finite = f .finite && r .finite };
+  surround = record { layout = s .layout; others = f .others };
+}
+
+pub filtered-bed : (l : Level) (s : Surround) (xs : List Float)
+    → readAfter s (filteredOf s (ownOf l) xs) (readOf (filteredOf s (ownOf l) xs .joint) (l .powers)) ≡ bedFrameOf l s xs
+unfolding bedFrameOf jointFrameOf finishJoint filteredOf filteredBy
+filtered-bed l s xs = refl

@@ -4,20 +4,22 @@ use native.Mathlib.Omega.{arith}
 use mathlib.Core.Bool.{Bool, true, false, true≢false}
 use mathlib.Core.Path.{_≡_, refl, ap, sym, subst, _∙_}
 use mathlib.Core.List.{List}
-use lib.Dec.{eqb}
+use lib.Dec.{T, eqb}
 use lib.ListN.{length, take, drop, getD, set, length-take, length-drop, length-set}
 use lib.Seq.{getD-take, getD-set-same, getD-set-other, ext-getD}
 use lib.Ieee.{Float}
 use borrow.Author.Tests.{eqb-true, eqb-false}
 use Rattle.sequence.proofs.Filled.{all-blank}
+use Rattle.float.specs.AllFinite.{allFinite}
 use Rattle.level.specs.declared.Weighing.{Weighing}
+use Rattle.level.proofs.Finite.{all-take, all-drop}
 use Rattle.layout.specs.Layout.{most}
 use Rattle.channels.specs.declared.Channel.{Channel}
 use Rattle.channels.specs.declared.run.Run.{Run}
 use Rattle.channels.specs.declared.pairs.Four.{Four}
 use Rattle.channels.specs.Runs.{pastWeighing, weighingOf, noFlags, putOf, putFour, Right, Complete}
 use Rattle.channels.specs.Channels.{samplesOf, parts, weighingsOf}
-use Rattle.channels.specs.Pairs.{fourOf}
+use Rattle.channels.specs.Pairs.{Whole, fourOf}
 use Rattle.channels.proofs.Weighings.{parts-length, weighings-length, weighings-at}
 
 -- ---- all that were to be run
@@ -29,9 +31,12 @@ complete-all cs n xs ws e c =
     ext-getD pastWeighing (take n ws) (weighingsOf cs n xs) (taken ∙ sym size)
     (λ i h. getD-take n ws i pastWeighing (omega (arith, taken)) ∙ c .each i (omega (arith, taken)) ∙ sym (weighings-at cs xs n i (omega (arith, taken)) (omega (arith, taken, e))))
 
--- a whole channel has its 480 samples
-pub whole-samples : (xs : List Float) (c : ℕ) → c * 480 + 480 ≤ length xs → length (samplesOf c xs) ≡ 480
-whole-samples xs c h = length-take 480 (drop (c * 480) xs) ∙ omega (arith, length-drop (c * 480) xs)
+-- a channel that the slice reaches has its 480 samples
+pub whole-samples : (xs ys : List Float) (c : ℕ) → ys ≡ samplesOf c xs → c * 480 + 480 ≤ length xs → T (allFinite xs) → Whole ys
+whole-samples xs ys c e h t = record {
+  samples = ap (λ (l : List Float). length l) e ∙ length-take 480 (drop (c * 480) xs) ∙ omega (arith, length-drop (c * 480) xs);
+  finite = subst (λ (l : List Float). T (allFinite l)) (sym e) (all-take 480 (drop (c * 480) xs) (all-drop (c * 480) xs t));
+}
 
 -- ---- what is marked is right
 

@@ -87,6 +87,10 @@ KeepsDeque =
 abbrev pub channelsOf : Layout → ℕ
 channelsOf l = length (usedWeights l)
 
+-- a frame's samples, channel by channel
+abbrev pub channelsIn : Layout → List Float → List (List Float)
+channelsIn l bed = parts (channelsOf l) bed
+
 -- a strand's level, and what a chain keeps beside it
 pub record Bed : Type 0 where
   pub level : Level

@@ -1,9 +1,21 @@
 -- Two channels' numbers side by side, and those of one channel, to save time. No meaning rests on it.
+use mathlib.Core.Path.{_≡_}
+use mathlib.Core.List.{List}
+use lib.Dec.{T}
+use lib.ListN.{length}
+use lib.Ieee.{Float}
+use Rattle.float.specs.AllFinite.{allFinite}
 use Rattle.biquad.specs.declared.State.{State}
 use Rattle.level.specs.declared.Weighing.{Weighing}
+use Rattle.level.specs.Bs1770.{frameLength}
 use Rattle.channels.specs.declared.pairs.States.{States}
 use Rattle.channels.specs.declared.pairs.Two.{Two}
 use Rattle.channels.specs.declared.pairs.Four.{Four}
+
+-- a channel's 480 samples, all finite
+pub record Whole (xs : List Float) : Type 0 where
+  pub samples : length xs ≡ frameLength
+  pub finite : T (allFinite xs)
 
 abbrev pub statesOf : State → State → States
 statesOf s t = record { z1 = record { a = s .z1; b = t .z1 }; z2 = record { a = s .z2; b = t .z2 } }

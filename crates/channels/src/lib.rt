@@ -11,7 +11,7 @@ ghost use Rattle.level.specs.Bs1770.{frameLength};
 ghost use Rattle.level.specs.Weighing.{runOf};
 ghost use Rattle.level.specs.Level.{noChannel, startOf};
 ghost use Rattle.channels.specs.Channels.{resting, beginOf, keptOf, joinAll, storedFinite, allStored, keptIn};
-ghost use Rattle.channels.specs.Surround.{restingOthers, restingOf, monoSurround, ownOf, bedFrameOf, oneFrameOf};
+ghost use Rattle.channels.specs.Surround.{restingOthers, restingOf, monoSurround, filteredOne, filteredOf, bedFrameOf};
 use biquad::State;
 use layout::Layout;
 use layout::MOST;
@@ -19,7 +19,6 @@ use level::FRAME;
 use level::Framed;
 use level::Joint;
 use level::Level;
-use level::Powers;
 use level::Weighing;
 
 // What a channel keeps from frame to frame.
@@ -32,6 +31,14 @@ pub struct Channel {
 // What a chain keeps beside the bed strand's level: the layout, and channels 2 to 8. Those past the layout's count are at rest.
 pub struct Surround {
     pub layout: Layout,
+    pub others: [Channel; 7],
+}
+
+// What the channels' filters leave of a frame: the sums over them, whether the numbers that they store are finite, and the channels.
+pub struct Filtered {
+    pub joint: Joint,
+    pub finite: bool,
+    pub own: Channel,
     pub others: [Channel; 7],
 }
 
@@ -147,17 +154,10 @@ fn keep(channels: [Channel; 8], ws: [Weighing; 8], n: usize) -> [Channel; 8]
     v
 }
 
-// All eight channels: a level's own, and the seven after it.
-fn all_channels(level: Level, others: [Channel; 7]) -> [Channel; 8]
-    ensures { λ r. ⌜ r ≡ ownOf level ∷ others ⌝ }
+// All eight channels: the level's own, and the seven after it.
+fn all_channels(own: Channel, others: [Channel; 7]) -> [Channel; 8]
+    ensures { λ r. ⌜ r ≡ own ∷ others ⌝ }
 {
-    let shelf = level.shelf;
-    let high_pass = level.high_pass;
-    let first = Channel {
-        shelf,
-        high_pass,
-        fast: level.fast,
-    };
     let b = others[0];
     let c = others[1];
     let d = others[2];
@@ -165,7 +165,7 @@ fn all_channels(level: Level, others: [Channel; 7]) -> [Channel; 8]
     let f = others[4];
     let g = others[5];
     let h = others[6];
-    [first, b, c, d, e, f, g, h]
+    [own, b, c, d, e, f, g, h]
 }
 
 // The seven after the first.
@@ -198,9 +198,9 @@ impl Surround {
         Self { layout, others }
     }
 
-    // A frame where the layout has one channel.
-    fn frame_of_one(self, first: Weighing, powers: Powers) -> BedFramed
-        ensures { λ r. ⌜ r ≡ oneFrameOf self first powers ⌝ }
+    // What the filters leave where the layout has one channel.
+    fn filtered_one(self, first: Weighing) -> Filtered
+        ensures { λ r. ⌜ r ≡ filteredOne self first ⌝ }
     {
         let none = Joint {
             power: 0.0,
@@ -208,70 +208,77 @@ impl Surround {
         };
         let places = self.layout.places;
         let p = places[0];
-        let read = none.join(p.weight(), first, FRAME).read(powers);
-        let shelf = first.shelf;
-        let high_pass = first.high_pass;
-        let next = read.powers;
-        let reading = read.reading;
-        BedFramed {
-            framed: Framed {
-                level: Level {
-                    shelf,
-                    high_pass,
-                    fast: first.fast,
-                    powers: next,
-                },
-                reading,
-                finite: stored_finite(first) & read.finite,
-            },
-            surround: self,
+        let others = self.others;
+        Filtered {
+            joint: none.join(p.weight(), first, FRAME),
+            finite: stored_finite(first),
+            own: kept(first),
+            others,
         }
     }
 
-    // A frame of any channels.
-    fn frame_of_all(self, first: Weighing, level: Level, xs: &[f32]) -> BedFramed
-        ensures { λ r. ⌜ (first ≡ runOf (startOf level) (take frameLength (now (xs .entry))) → r ≡ bedFrameOf level self (now (xs .entry))) ⌝ }
+    // What they leave of any channels.
+    fn filtered_all(self, first: Weighing, own: Channel, xs: &[f32]) -> Filtered
+        ensures { λ r. ⌜ (first ≡ runOf (beginOf own) (take frameLength (now (xs .entry))) → r ≡ filteredOf self own (now (xs .entry))) ⌝ }
     {
-        let layout = self.layout;
         let others = self.others;
-        let n = layout.channels();
-        let channels = all_channels(level, others);
+        let n = self.layout.channels();
+        let channels = all_channels(own, others);
         let ws = run::weigh(first, channels, n, xs);
-        let read = join(layout.weights(), ws, n).read(level.powers);
-        let finite = all_stored(ws, n) & read.finite;
         let after = keep(channels, ws, n);
-        let own = after[0];
-        let shelf = own.shelf;
-        let high_pass = own.high_pass;
-        let next = read.powers;
-        let reading = read.reading;
+        let next = after[0];
         let rest = after_first(after);
-        BedFramed {
-            framed: Framed {
-                level: Level {
-                    shelf,
-                    high_pass,
-                    fast: own.fast,
-                    powers: next,
-                },
-                reading,
-                finite,
-            },
-            surround: Surround {
-                layout,
-                others: rest,
-            },
+        Filtered {
+            joint: join(self.layout.weights(), ws, n),
+            finite: all_stored(ws, n),
+            own: next,
+            others: rest,
         }
+    }
+
+    // What the filters leave of a frame: the level's own channel, whose filters have been run over it already, and the others.
+    fn filtered(self, first: Weighing, own: Channel, xs: &[f32]) -> Filtered
+        ensures { λ r. ⌜ (first ≡ runOf (beginOf own) (take frameLength (now (xs .entry))) → r ≡ filteredOf self own (now (xs .entry))) ⌝ }
+    {
+        if self.layout.count == 1 {
+            return self.filtered_one(first);
+        }
+        self.filtered_all(first, own, xs)
     }
 
     // A frame of the bed: its channels' samples, 480 each, one channel after the other. The filters of channel 1 have been run over them already,
-    // beside the key's.
+    // beside the key's. The list of powers is read in one place, so that the compiler makes the next list where it is to be kept.
     pub fn frame(self, first: Weighing, level: Level, xs: &[f32]) -> BedFramed
         ensures { λ r. ⌜ (first ≡ runOf (startOf level) (take frameLength (now (xs .entry))) → r ≡ bedFrameOf level self (now (xs .entry))) ⌝ }
     {
-        if self.layout.count == 1 {
-            return self.frame_of_one(first, level.powers);
+        let shelf = level.shelf;
+        let high_pass = level.high_pass;
+        let own = Channel {
+            shelf,
+            high_pass,
+            fast: level.fast,
+        };
+        let f = self.filtered(first, own, xs);
+        let read = f.joint.read(level.powers);
+        let next = f.own;
+        let shelf = next.shelf;
+        let high_pass = next.high_pass;
+        let powers = read.powers;
+        let reading = read.reading;
+        let layout = self.layout;
+        let others = f.others;
+        BedFramed {
+            framed: Framed {
+                level: Level {
+                    shelf,
+                    high_pass,
+                    fast: next.fast,
+                    powers,
+                },
+                reading,
+                finite: f.finite & read.finite,
+            },
+            surround: Surround { layout, others },
         }
-        self.frame_of_all(first, level, xs)
     }
 }

@@ -1,10 +1,10 @@
 // Four channels' filters in one loop, their results pair beside pair. Where a loop's results lie so in memory, the compiler computes two channels
 // with one instruction.
 ghost use mathlib.Core.Path.{_≡_};
-ghost use lib.ListN.{length};
-ghost use Rattle.level.specs.Bs1770.{frameLength};
-ghost use Rattle.level.specs.Weighing.{runOf};
-ghost use Rattle.channels.specs.Pairs.{twoOf, fourOf, firstState, secondState, firstOf, secondOf};
+ghost use lib.Dec.{T};
+ghost use lib.Ieee.Scale.{finite};
+ghost use Rattle.level.specs.Weighing.{cleanOf, runOf};
+ghost use Rattle.channels.specs.Pairs.{Whole, twoOf, fourOf, firstState, secondState, firstOf, secondOf};
 use biquad::State;
 use level::FRAME;
 use level::Weighing;
@@ -106,8 +106,16 @@ impl Two {
     }
 }
 
-// Four channels' filters over a frame of 480 samples each, in one loop, so that their steps go side by side. `run_four` shows the lengths.
-pub fn weigh_four(
+// A finite sample as it is heard.
+fn heard(v: f32) -> f64
+    requires { ⌜ T (finite v) ⌝ }
+    ensures { λ r. ⌜ r ≡ cleanOf v ⌝ }
+{
+    v as f64
+}
+
+// Four channels' filters over a frame of 480 samples each, in one loop, so that their steps go side by side. `run_four` shows that they are whole.
+pub(crate) fn weigh_four(
     w0: Weighing,
     w1: Weighing,
     w2: Weighing,
@@ -117,7 +125,7 @@ pub fn weigh_four(
     xs2: &[f32],
     xs3: &[f32],
 ) -> Four
-    requires { ⌜ (length (now xs0) ≡ frameLength) × (length (now xs1) ≡ frameLength) × (length (now xs2) ≡ frameLength) × (length (now xs3) ≡ frameLength) ⌝ }
+    requires { ⌜ Whole (now xs0) × Whole (now xs1) × Whole (now xs2) × Whole (now xs3) ⌝ }
     ensures { λ r. ⌜ r ≡ fourOf (runOf w0 (now (xs0 .entry))) (runOf w1 (now (xs1 .entry))) (runOf w2 (now (xs2 .entry))) (runOf w3 (now (xs3 .entry))) ⌝ }
 {
     let mut a = w0;
@@ -126,10 +134,10 @@ pub fn weigh_four(
     let mut d = w3;
     let mut i = 0;
     while i < FRAME {
-        a = a.step(level::clean(xs0[i]));
-        b = b.step(level::clean(xs1[i]));
-        c = c.step(level::clean(xs2[i]));
-        d = d.step(level::clean(xs3[i]));
+        a = a.step(heard(xs0[i]));
+        b = b.step(heard(xs1[i]));
+        c = c.step(heard(xs2[i]));
+        d = d.step(heard(xs3[i]));
         i += 1;
     }
     Four {

@@ -1,8 +1,10 @@
 // The channels' filters over a frame: first those that rest, then four at a time, then what is left. In what order they are run makes no
-// difference; each channel that is marked has been run.
+// difference; each channel that is marked has been run. Where a sample isn't finite, each is run by itself: four at a time need no test of a sample.
 ghost use Prim.Native.Nat.{_*_, _≤_, _<_};
 ghost use mathlib.Core.Path.{_≡_};
+ghost use lib.Dec.{T};
 ghost use lib.ListN.{length, take};
+ghost use Rattle.float.specs.AllFinite.{allFinite};
 ghost use Rattle.level.specs.Bs1770.{frameLength};
 ghost use Rattle.layout.specs.Layout.{most};
 ghost use Rattle.channels.specs.Channels.{samplesOf, weighingsOf};
@@ -102,7 +104,7 @@ fn run_one(channels: [Channel; 8], xs: &[f32], c: usize) -> Weighing
 // The filters of channels a, b, c and d over a frame. Its two calls keep it a function of its own in the machine code: only then do its results lie
 // pair beside pair.
 fn run_four(channels: [Channel; 8], xs: &[f32], a: usize, b: usize, c: usize, d: usize) -> Four
-    requires { ⌜ Reaches (length (now xs)) a × Reaches (length (now xs)) b × Reaches (length (now xs)) c × Reaches (length (now xs)) d ⌝ }
+    requires { ⌜ Reaches (length (now xs)) a × Reaches (length (now xs)) b × Reaches (length (now xs)) c × Reaches (length (now xs)) d × T (allFinite (now xs)) ⌝ }
     ensures { λ r. ⌜ r ≡ fourOf (weighingOf channels (now (xs .entry)) a) (weighingOf channels (now (xs .entry)) b) (weighingOf channels (now (xs .entry)) c) (weighingOf channels (now (xs .entry)) d) ⌝ }
 {
     let s = channels[a];
@@ -163,7 +165,7 @@ fn run_quiet(run: Run, channels: [Channel; 8], m: usize, xs: &[f32]) -> Run
 
 // The other channels, four at a time.
 fn run_fours(run: Run, channels: [Channel; 8], m: usize, xs: &[f32]) -> Run
-    requires { ⌜ (0 < m) × (m ≤ most) × (m * frameLength ≤ length (now xs)) ⌝ }
+    requires { ⌜ (0 < m) × (m ≤ most) × (m * frameLength ≤ length (now xs)) × T (allFinite (now xs)) ⌝ }
     ensures { λ r. ⌜ (Right channels (now (xs .entry)) run → Right channels (now (xs .entry)) r) ⌝ }
 {
     let done = run.done;
@@ -220,9 +222,12 @@ fn run_all(run: Run, channels: [Channel; 8], m: usize, xs: &[f32]) -> [Weighing;
     if xs.len() < m * FRAME {
         return run_rest(run, channels, m, xs);
     }
-    let first = run_quiet(run, channels, m, xs);
-    let more = run_fours(first, channels, m, xs);
-    run_rest(more, channels, m, xs)
+    if float::all_finite32(xs) {
+        let first = run_quiet(run, channels, m, xs);
+        let more = run_fours(first, channels, m, xs);
+        return run_rest(more, channels, m, xs);
+    }
+    run_rest(run, channels, m, xs)
 }
 
 // The filters of the first n channels over a frame, of which the first has been run elsewhere, beside the key's.

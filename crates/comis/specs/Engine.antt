@@ -1,6 +1,6 @@
 -- What each loop needs, and the loops' updates by the state: the Rust's `AutomixEngine` without `previous_state`. Definitions only.
 use mathlib.Core.Bool.{Bool, _||_, cond}
-use lib.Ieee.{Float, binary64, neg, le, ofBits}
+use lib.Ieee.{Float, binary64, le, ofBits}
 use Rattle.float.specs.Arithmetic.{_⊖_}
 use Rattle.float.specs.declared.Db.{Db}
 use Rattle.float.specs.declared.Lufs.{Lufs}

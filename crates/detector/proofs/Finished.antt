@@ -43,6 +43,11 @@ pub no-samples-length : length noSamples ≡ 480
 unfolding noSamples
 no-samples-length = length-replicate 480 zero64
 
+-- what is made of places that are fresh
+pub samples-into : (xs places made : List Float) → made ≡ laid (take (length places) xs) places → places ≡ noSamples → made ≡ samplesOf xs
+unfolding samplesOf
+samples-into xs places made e f = e ∙ (λ i. laid (take ((ap length f ∙ no-samples-length) i) xs) (f i))
+
 pub samples-length : (xs : List Float) → length (samplesOf xs) ≡ 480
 unfolding samplesOf
 samples-length xs = simp (length-append, length-drop, length-take) (omega (arith, no-samples-length))

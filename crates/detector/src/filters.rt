@@ -11,7 +11,6 @@ ghost use Rattle.float.specs.AllFinite.{allFinite};
 ghost use Rattle.sequence.specs.History.{laid};
 ghost use Rattle.detector.specs.Filters.{
   noSamples,
-  samplesOf,
   allAtRest,
   begun,
   statesOf,
@@ -200,18 +199,16 @@ pub fn no_samples() -> [f64; FRAME]
     [0.0; FRAME]
 }
 
-// The 480 samples of a frame as f64. Missing ones count as 0, and further ones aren't heard.
-pub fn samples(xs: &[f32]) -> [f64; FRAME]
-    ensures { λ r. ⌜ r ≡ samplesOf (now (xs .entry)) ⌝ }
+// The samples xs as f64 in the lent places, as far as both go.
+pub fn samples(xs: &[f32], to: &mut [f64])
+    ensures { λ _. ⌜ now (to .exit) ≡ laid (take (length (now (to .entry))) (now (xs .entry))) (now (to .entry)) ⌝ }
 {
-    let mut v = no_samples();
-    let n = sequence::least(FRAME, xs.len());
+    let n = sequence::least(to.len(), xs.len());
     let mut i = 0;
     while i < n {
-        v[i] = std::num::f32_to_f64_with_nan(xs[i]);
+        to[i] = std::num::f32_to_f64_with_nan(xs[i]);
         i += 1;
     }
-    v
 }
 
 // Of every eighth output of the pitch filter, as f32, the latest 240, oldest first; the places after them are 0.

@@ -8,6 +8,7 @@ mod voicing;
 pub use filters::Bands;
 pub use filters::Decimated;
 pub use filters::Filters;
+pub use filters::no_samples;
 pub use filters::samples;
 pub use floor::Floor;
 pub use floor::Floored;
@@ -201,8 +202,9 @@ impl FeatureDetector {
     pub fn frame(self, xs: &[f32]) -> Heard
         ensures { λ r. ⌜ r ≡ frameOf self (now (xs .entry)) ⌝ }
     {
-        let x = samples(xs);
-        let mut ys = filters::no_samples();
+        let mut x = no_samples();
+        samples(xs, &mut x);
+        let mut ys = no_samples();
         let bands = self.filters.begin().run(&x, &mut ys);
         self.finish(bands, &ys)
     }

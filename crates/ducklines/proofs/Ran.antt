@@ -1,6 +1,6 @@
 -- One frame more in a run of frames, as a text and as the program puts it; how long the text is; and that frames leave the layout as it is.
 use mathlib.Core.Path.{_≡_, refl, sym, ap, _∙_}
-use mathlib.Core.List.{List, []}
+use mathlib.Core.List.{List}
 use Prim.Native.Nat.{ℕ, zero, suc, _+_, _-_, _*_, _/_, _%_, _^_, _≤_, _<_, min}
 use native.Mathlib.Nat.{zero-add, mul-le-mul-left, div-mul-le-self, lt-div-mul-add}
 use native.Mathlib.Numerals.{add-one}

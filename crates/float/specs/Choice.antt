@@ -1,5 +1,5 @@
 -- max, min and clamp as the specification words them. Definitions only.
-use mathlib.Core.Bool.{Bool, cond}
+use mathlib.Core.Bool.{cond}
 use lib.Ieee.{Float, lt}
 
 -- the left, unless the right is strictly greater: max of -0 and +0 is the left one, a NaN on the left stays, one on the right is passed over

@@ -1,10 +1,10 @@
 -- The samples that the bytes of frames mean, and what is left behind some frames. Definitions only.
-use Prim.Native.Nat.{ℕ, _+_, _*_, _-_, min, max}
+use Prim.Native.Nat.{ℕ, _+_, _*_, _-_}
 use mathlib.Core.List.{List}
 use lib.Ieee.{Float, binary32, ofBits}
 use lib.ListN.{take, drop}
 use Rattle.level.specs.Bs1770.{frameLength}
-use Rattle.layout.specs.Layout.{most}
+use Rattle.layout.specs.Layout.{channelCount}
 use Rattle.blocks.specs.Lists.{laid, table}
 use Rattle.blocks.specs.Words.{word4}
 
@@ -15,17 +15,13 @@ strandBytes = 1920
 abbrev pub bufferBytes : ℕ
 bufferBytes = 61440
 
--- the channels that a frame has of a bed of n: one of a bed without any, and eight of a larger one
-abbrev pub channelsOf : ℕ → ℕ
-channelsOf n = max (min n most) 1
-
 -- the samples of the bed in a frame
 unfoldable pub bedSamples : ℕ → ℕ
-bedSamples n = channelsOf n * frameLength
+bedSamples n = channelCount n * frameLength
 
 -- bytes of a frame: the key, then the bed, one channel after the other
 unfoldable pub frameBytes : ℕ → ℕ
-frameBytes n = (1 + channelsOf n) * strandBytes
+frameBytes n = (1 + channelCount n) * strandBytes
 
 -- the sample that four bytes from place i on stand for: binary32, the lowest byte first
 abbrev pub sampleAt : List ℕ → ℕ → Float

@@ -5,9 +5,9 @@ ghost use Prim.Native.Nat.{_+_, _-_, _*_, _^_, _≤_, _<_};
 ghost use lib.ListN.{length};
 ghost use lib.Seq.{paste};
 ghost use Rattle.sequence.specs.History.{laid};
-ghost use Rattle.frame_bytes.specs.Bytes.{channelsOf, bedSamples, frameBytes, sampleAt, samplesAt, strandAt, keyAt, bedAt, keptOf};
+ghost use Rattle.frame_bytes.specs.Bytes.{bedSamples, frameBytes, sampleAt, samplesAt, strandAt, keyAt, bedAt, keptOf};
 use blocks::little_endian::read4;
-use layout::MOST;
+use layout::channel_count;
 
 // Samples of a strand.
 const SAMPLES: usize = level::FRAME;
@@ -21,25 +21,18 @@ pub const BED: usize = 3840;
 // Bytes of the buffer.
 pub const BUFFER: usize = 61440;
 
-// The channels that a frame has of a bed of so many: one of a bed without any, and eight of a larger one.
-fn channels(count: u64) -> usize
-    ensures { λ r. ⌜ r ≡ channelsOf count ⌝ }
-{
-    sequence::most(sequence::least(count as usize, MOST), 1)
-}
-
 // The samples that a frame has of a bed of so many channels.
 pub fn bed_samples(count: u64) -> usize
     ensures { λ r. ⌜ r ≡ bedSamples count ⌝ }
 {
-    channels(count) * SAMPLES
+    channel_count(count) * SAMPLES
 }
 
 // The bytes of a frame whose bed has so many channels.
 pub fn size(count: u64) -> usize
     ensures { λ r. ⌜ r ≡ frameBytes count ⌝ }
 {
-    (1 + channels(count)) * STRAND
+    (1 + channel_count(count)) * STRAND
 }
 
 // The sample whose first byte is at `at`.
@@ -110,7 +103,7 @@ pub fn bed(buffer: &[u8; BUFFER], count: u64, i: u16, x: &mut [f32; BED])
     strands(
         buffer,
         i as usize * size(count) + STRAND,
-        channels(count),
+        channel_count(count),
         x,
     );
 }

@@ -2,7 +2,6 @@
 // back. Each answers a number of the specification's table, 0 where it passed; a refusal changes nothing that is lent. library/freightpetal.h has
 // the declarations.
 ghost use mathlib.Core.Path.{_≡_};
-ghost use Rattle.chain.specs.Chain.{frameOf};
 ghost use Rattle.words.specs.Words.{settingsFrom, layoutFrom};
 ghost use Rattle.freightpetal_c.specs.Lent.{
   codeOf,

@@ -20,7 +20,7 @@ use Rattle.chain.specs.declared.Changed.{Changed}
 use Rattle.chain.specs.declared.Verdict.{Verdict}
 use Rattle.chain.specs.declared.Verdict.the-variants.{Passed, Refused}
 use Rattle.chain.specs.Chain.{changed, unchanged}
-use Rattle.chain.specs.Base.{Base, widened}
+use Rattle.chain.specs.Base.{widened}
 use Rattle.codec.specs.Run.{Run}
 use Rattle.image.specs.Layout.{blockCount, imageBytes, payloadWords}
 use Rattle.image.specs.Edition.{Edition, imageIn, oursIn}

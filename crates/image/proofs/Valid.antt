@@ -1,8 +1,8 @@
 -- What the codecs of both editions hold good is what the modules call valid.
 use mathlib.Core.Path.{_≡_, refl, sym, ap, _∙_}
-use mathlib.Core.Bool.{Bool, true, false, not, cond, _&&_, _||_, true≢false}
+use mathlib.Core.Bool.{Bool, true, false, not, cond, _||_, true≢false}
 use borrow.Author.Tests.{eq-eqb, eqb-true, not-true}
-use lib.Dec.{T, eqb}
+use lib.Dec.{eqb}
 use lib.Ieee.{Float, binary64, toBits, ofBits, eq}
 use lib.Ieee.Bits.{is-true, ofBits-toBits}
 use Rattle.sequence.proofs.Tests.{neither, both}

@@ -1,5 +1,5 @@
 -- A bed's layout: which words are accepted, and how an accepted layout is stored. Each field is a 64-bit word, a negative angle in two's complement.
-use Prim.Native.Nat.{ℕ, _-_, _^_, min}
+use Prim.Native.Nat.{ℕ, _-_, _^_, min, max}
 use mathlib.Core.Bool.{Bool, cond, _&&_}
 use mathlib.Core.List.{List, map}
 use lib.Dec.{leb, ltb, eqb}
@@ -12,6 +12,10 @@ use Rattle.layout.specs.declared.Layout.{Layout}
 -- the most channels of a bed
 abbrev pub most : ℕ
 most = 8
+
+-- the channels that a frame has of a bed of n: one of a bed without any, and eight of a larger one; every layout that is accepted has 1 to 8
+abbrev pub channelCount : ℕ → ℕ
+channelCount n = max (min n most) 1
 
 -- how many degrees an angle is from 0, on either side; a number that is no word counts as it is. `specs/Laws.antt` says so of whole numbers with
 -- a sign

@@ -2,7 +2,7 @@
 // Each field is a 64-bit word as it comes in a call or an image, a negative angle in two's complement: any words can be held, and turned away.
 ghost use mathlib.Core.Path.{_≡_};
 ghost use Prim.Native.Nat.{min};
-ghost use Rattle.layout.specs.Layout.{sizeOf, withinOf, placedOf, layoutWithin, storedOf, monoOf, blanks};
+ghost use Rattle.layout.specs.Layout.{channelCount, sizeOf, withinOf, placedOf, layoutWithin, storedOf, monoOf, blanks};
 ghost use Rattle.layout.specs.Weights.{weightOf, weightsOf, noWeights};
 
 // The most channels of a bed.
@@ -21,14 +21,21 @@ pub struct Layout {
     pub places: [Place; 8],
 }
 
+// The channels that a frame has of a bed of so many: one of a bed without any, and eight of a larger one.
+pub fn channel_count(count: u64) -> usize
+    ensures { λ r. ⌜ r ≡ channelCount count ⌝ }
+{
+    sequence::most(sequence::least(count as usize, MOST), 1)
+}
+
 // How many degrees an angle is from 0, on either side.
 pub fn size(angle: u64) -> u64
     ensures { λ r. ⌜ r ≡ sizeOf angle ⌝ }
 {
-    if angle < 9223372036854775808 {
+    if angle < 0x8000_0000_0000_0000 {
         return angle;
     }
-    18446744073709551615 - angle + 1
+    u64::MAX - angle + 1
 }
 
 impl Place {

@@ -6,7 +6,7 @@ use mathlib.Core.Path.{_≡_, refl, ap, sym, _∙_}
 use mathlib.Core.List.{List, [], _∷_, _++_, map, foldl, reverse, reverseAux, reverseAux-append, reverse-cons}
 use lib.ListN.{length, take, drop, length-append, length-map, length-reverse, length-reverseAux}
 use lib.Dec.{T}
-use lib.Ieee.{Float, nan, inf, fin}
+use lib.Ieee.{Float}
 use lib.Ieee.Fits.{and-l, and-r}
 use lib.Ieee.Scale.{finite}
 use Rattle.biquad.specs.Sections.{kShelf, kHighPass}
@@ -24,6 +24,7 @@ use Rattle.level.specs.Level.{zeros, lufsOf, freshOf, frameOf}
 use Rattle.level.specs.Deque.{Meter, newMeter, meterRun, dequeMean, joint, kept, framesWith, meterNext, meterReading, meterOf}
 use Rattle.level.specs.Heard.{Whole, heard, joined, levelAfter, bs1770, ReadsBs1770, HearsSamples}
 use Rattle.level.proofs.Deque.{level-deque, level-deque-reading, level-places}
+use Rattle.level.proofs.Finite.{clean-one}
 use Rattle.level.proofs.Filter.{stateAt, shelf-rest, high-pass-rest, filtered-length, weighingAt, run-at, weighted-drop}
 use Rattle.level.proofs.Squares.{joined-power, joined-fast, frames-sum}
 
@@ -178,12 +179,7 @@ level-bs1770 fs f w e =
 pub clean-finite : (xs : List Float) → T (allFinite xs) → map cleanOf xs ≡ xs
 unfolding allFinite
 clean-finite [] t = refl
-clean-finite (x ∷ xs) t = λ i. clean x (and-l (finite x) (allFinite xs) t) i ∷ clean-finite xs (and-r (finite x) (allFinite xs) t) i
-  where
-    clean : (x : Float) → T (finite x) → cleanOf x ≡ x
-    clean nan t = absurd t
-    clean (inf s) t = absurd t
-    clean (fin s m e) t = refl
+clean-finite (x ∷ xs) t = λ i. clean-one x (and-l (finite x) (allFinite xs) t) i ∷ clean-finite xs (and-r (finite x) (allFinite xs) t) i
 
 pub level-samples : HearsSamples
 unfolding heard joined

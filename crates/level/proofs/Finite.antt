@@ -2,16 +2,29 @@
 use Prim.Native.Nat.{ℕ, zero, suc, _-_, _≤_, _<_}
 use native.Mathlib.Omega.{arith}
 use mathlib.Core.Path.{_≡_, refl, sym, ap, subst, _∙_}
-use mathlib.Core.Bool.{Bool, _&&_, and-assoc}
+use mathlib.Core.Bool.{Bool, true, not, _&&_, and-assoc}
 use mathlib.Core.List.{List, [], _∷_, _++_}
 use lib.Dec.{T}
-use lib.ListN.{length, getD, drop, length-append}
+use lib.ListN.{length, getD, take, drop, length-append}
 use lib.Seq.{drop-append-le}
-use lib.Ieee.{Float, nan}
-use lib.Ieee.Fits.{and-i, and-l, and-r}
+use lib.Ieee.{Float, nan, inf, fin, binary32, binary64, fits, isNan}
+use lib.Ieee.Fits.{fits-widens, and-i, and-l, and-r}
 use lib.Ieee.Scale.{finite}
 use Rattle.sequence.specs.History.{latest, held, placesAfter}
 use Rattle.float.specs.AllFinite.{allFinite}
+use Rattle.level.specs.Weighing.{cleanOf}
+
+-- what is finite is a number, so it can be widened, and it is heard as it is
+pub widens : (v : Float) → T (finite v) → T (fits binary32 v) → T (fits binary64 v && not (isNan v))
+unfolding isNan
+widens nan e t = absurd e
+widens (inf s) e t = absurd e
+widens (fin s m x) e t = and-i (fits binary64 (fin s m x)) true (fits-widens (fin s m x) t) tt
+
+pub clean-one : (v : Float) → T (finite v) → cleanOf v ≡ v
+clean-one nan e = absurd e
+clean-one (inf s) e = absurd e
+clean-one (fin s m x) e = refl
 
 -- each number of a list whose numbers are all finite
 pub all-at : (xs : List Float) (k : ℕ) → T (allFinite xs) → k < length xs → T (finite (getD xs k nan))
@@ -19,6 +32,19 @@ unfolding allFinite
 all-at [] k t h = absurd (omega arith)
 all-at (x ∷ xs) zero t h = and-l (finite x) (allFinite xs) t
 all-at (x ∷ xs) (suc k) t h = all-at xs k (and-r (finite x) (allFinite xs) t) (omega arith)
+
+-- and of its parts
+pub all-take : (n : ℕ) (xs : List Float) → T (allFinite xs) → T (allFinite (take n xs))
+unfolding allFinite
+all-take zero xs t = tt
+all-take (suc n) [] t = tt
+all-take (suc n) (x ∷ xs) t = and-i (finite x) (allFinite (take n xs)) (and-l (finite x) (allFinite xs) t) (all-take n xs (and-r (finite x) (allFinite xs) t))
+
+pub all-drop : (n : ℕ) (xs : List Float) → T (allFinite xs) → T (allFinite (drop n xs))
+unfolding allFinite
+all-drop zero xs t = t
+all-drop (suc n) [] t = tt
+all-drop (suc n) (x ∷ xs) t = all-drop n xs (and-r (finite x) (allFinite xs) t)
 
 -- ---- the same, number by number: a proof can be taken apart by cases
 

@@ -1,11 +1,9 @@
 -- Samples that are all the same, and a shelf that they leave as it is: only the high-pass and what follows it need be run.
-use Prim.Native.Nat.{ℕ, zero, suc, _+_, _≤_, _<_}
-use native.Mathlib.Numerals.{add-one}
+use Prim.Native.Nat.{ℕ, zero, suc}
 use mathlib.Core.Path.{_≡_, refl, sym, subst, _∙_, ap}
-use mathlib.Core.List.{List, [], _∷_, foldl}
-use lib.ListN.{length, drop, getD, replicate, drop-of-length-le}
-use lib.Seq.{drop-cons}
-use lib.Ieee.{Float, nan}
+use mathlib.Core.List.{List, foldl}
+use lib.ListN.{length, replicate}
+use lib.Ieee.{Float}
 use Rattle.float.proofs.Sameness.{Same}
 use Rattle.biquad.specs.Sections.{kShelf, kHighPass}
 use Rattle.biquad.specs.Tick.{tickOf}

@@ -3,11 +3,8 @@
 ghost use mathlib.Core.Path.{_≡_};
 ghost use mathlib.Core.List.{foldl};
 ghost use lib.Dec.{T};
-ghost use lib.ListN.{length, replicate};
 ghost use Rattle.biquad.specs.Tick.{tickOf};
-ghost use Rattle.float.specs.AllFinite.{allFinite};
 ghost use Rattle.level.specs.Rest.{sameState, holdsOf, restsOf, shelfOutput, heldStep, heldRun, stillStep};
-ghost use Rattle.float.specs.Same.{sameOf, allSame};
 ghost use Rattle.level.specs.Weighing.{cleanOf, stepOf, runOf};
 ghost use Rattle.level.specs.Level.{
   joinedOf,

@@ -5,7 +5,7 @@ use mathlib.Core.List.{List, [], _∷_}
 use lib.Dec.{T, eqb}
 use lib.ListN.{length}
 use lib.Ieee.{Float}
-use borrow.Author.Tests.{eqb-true}
+use borrow.Author.Tests.{eqb-true, not-false}
 use Rattle.refusal.specs.declared.Refusal.the-variants.{ShortFrame, BadSample, BadSetting, Runaway, CounterFull, BadLayout}
 use Rattle.refusal.specs.Table.{_means_}
 use Rattle.demands.proofs.Table.{first-passes}
@@ -16,7 +16,7 @@ use Rattle.layout.specs.Layout.{layoutWithin}
 use Rattle.settings.specs.declared.Settings.{Settings}
 use Rattle.chain.specs.declared.Chain.{Chain}
 use Rattle.settings.specs.Settings.{callRanges, outsideSettings}
-use Rattle.sequence.proofs.Tests.{neither, holds, both, told}
+use Rattle.sequence.proofs.Tests.{neither, both, told}
 use Rattle.chain.specs.Chain.{workOf, finiteIn, fullIn, channelCount, bedLength}
 use Rattle.chain.specs.StrandFrames.{Whole}
 use Rattle.rules.specs.Rules.{shortFrame, badSample, frameNumber, settingsNumber, layoutNumber}
@@ -44,15 +44,15 @@ accepted c key bed z =
     let five = first-passes (fullIn w) CounterFull [] (four .1) in
     let whole = neither (not (eqb (length key) frameLength)) (not (eqb (length bed) (bedLength c))) (one .0) in
     let samples = neither (not (allFinite key)) (not (allFinite bed)) (two .0) in
-    let strands = both (w .key .finite && w .bed .finite) (w .duck .finite) (holds (finiteIn w) (four .0)) in
+    let strands = both (w .key .finite && w .bed .finite) (w .duck .finite) (not-false (finiteIn w) (four .0)) in
     let each = both (w .key .finite) (w .bed .finite) (strands .0) in
     let room = neither (w .key .full) (w .bed .full) (five .0) in
     record {
       whole = record {
-        key-length = eqb-true (length key) frameLength (holds (eqb (length key) frameLength) (whole .0));
-        bed-length = eqb-true (length bed) (bedLength c) (holds (eqb (length bed) (bedLength c)) (whole .1));
-        key-samples = told (allFinite key) (holds (allFinite key) (samples .0));
-        bed-samples = told (allFinite bed) (holds (allFinite bed) (samples .1));
+        key-length = eqb-true (length key) frameLength (not-false (eqb (length key) frameLength) (whole .0));
+        bed-length = eqb-true (length bed) (bedLength c) (not-false (eqb (length bed) (bedLength c)) (whole .1));
+        key-samples = told (allFinite key) (not-false (allFinite key) (samples .0));
+        bed-samples = told (allFinite bed) (not-false (allFinite bed) (samples .1));
       };
       key-finite = told (w .key .finite) (each .0);
       bed-finite = told (w .bed .finite) (each .1);
@@ -71,4 +71,4 @@ settings-accepted s z = first-passes (outsideSettings callRanges s) BadSetting [
 
 pub layout-accepted : (l : Layout) → layoutNumber l ≡ 0 → T (layoutWithin l)
 unfolding layoutNumber
-layout-accepted l z = told (layoutWithin l) (holds (layoutWithin l) (first-passes (not (layoutWithin l)) BadLayout [] z .0))
+layout-accepted l z = told (layoutWithin l) (not-false (layoutWithin l) (first-passes (not (layoutWithin l)) BadLayout [] z .0))

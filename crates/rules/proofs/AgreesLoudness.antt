@@ -5,7 +5,7 @@ use mathlib.Core.Bool.{Bool, true, false, cond}
 use mathlib.Core.List.{List, [], _∷_, _++_, map, foldl, append-nil, append-assoc}
 use lib.Dec.{T, eqb}
 use lib.ListN.{length}
-use lib.Ieee.{Float, lt, neg, ofBits}
+use lib.Ieee.{Float, lt}
 use Rattle.demands.specs.Calls.{Log, empty, _▹_}
 use Rattle.demands.specs.Laws.{Agrees}
 use Rattle.level.specs.declared.Level.{Level}
@@ -26,7 +26,7 @@ use Rattle.channels.specs.Channels.{parts}
 use Rattle.channels.specs.Surround.{restingOf, bedFrameOf}
 use Rattle.channels.specs.Bs1770 as loudness-of
 use Rattle.channels.specs.Heard as channels
-use Rattle.channels.specs.Heard.{each, sources, channelsOf, Bed, bedNext, bedAfter}
+use Rattle.channels.specs.Heard.{each, sources, channelsOf, channelsIn, Bed, bedNext, bedAfter}
 use Rattle.channels.proofs.Promised.{bed-laws}
 use Rattle.vad.specs.declared.VadSettings.{VadSettings}
 use Rattle.vad.specs.declared.Strand.{Strand}
@@ -45,7 +45,7 @@ use Rattle.settings.specs.Settings.{storedOf, storedDuck}
 use Rattle.chain.specs.Chain.{freshOf, inputsOf, bedLevelOf, bedStrandOf, workOf, keptOf, answerOf, keyAnew, bedAnew}
 use Rattle.chain.specs.Valid.{Valid}
 use Rattle.rules.specs.Rules.{Event, frame, settings, reset, layout, shown, refuses, next, answers, rules}
-use Rattle.rules.specs.Loudness.{keyHeard, layoutIn, channelsIn, nothing, bedHeard, enabledIn, keyReads, bedReads, loudnessOf, shownOf, readingOf, loud, says, part, loudness, Given, given, givenOf}
+use Rattle.rules.specs.Loudness.{keyHeard, layoutIn, nothing, bedHeard, enabledIn, keyReads, bedReads, loudnessOf, shownOf, readingOf, loud, says, part, loudness, Given, given, givenOf}
 use Rattle.rules.proofs.Accepted.{Accepted, accepted}
 use Rattle.rules.proofs.Valid.{bed-samples}
 use Rattle.rules.proofs.Beds as beds

@@ -21,7 +21,7 @@ use Rattle.channels.specs.declared.BedFramed.{BedFramed}
 use Rattle.channels.specs.Channels.{resting}
 use Rattle.channels.specs.Surround.{restingOthers, restingOf, bedFrameOf}
 use Rattle.channels.specs.Deque.{Meters, metersNext, metersReading, bedMeters}
-use Rattle.channels.specs.Heard.{channelsOf}
+use Rattle.channels.specs.Heard.{channelsOf, channelsIn}
 use Rattle.layout.proofs.Used.{few-used}
 use Rattle.channels.proofs.Layouts.{take-replicate}
 use Rattle.channels.proofs.Promised.{bed-laws}
@@ -141,16 +141,16 @@ module _ (c : Chain) (m : model.RustChain) (v : Valid c) (l : Like c m) (key bed
   abbrev framed : BedFramed
   framed = bedLevelOf c bed
 
-  keeps : (bedMeters (framed .framed .level) (framed .surround) ≡ metersNext (usedWeights lay) (bedMeters (c .bed .level) (c .surround)) (model.channelsIn lay bed))
-      × (framed .framed .reading ≡ metersReading (usedWeights lay) (bedMeters (c .bed .level) (c .surround)) (model.channelsIn lay bed))
+  keeps : (bedMeters (framed .framed .level) (framed .surround) ≡ metersNext (usedWeights lay) (bedMeters (c .bed .level) (c .surround)) (channelsIn lay bed))
+      × (framed .framed .reading ≡ metersReading (usedWeights lay) (bedMeters (c .bed .level) (c .surround)) (channelsIn lay bed))
   keeps = bed-laws .keeps-layout (c .bed .level) (c .surround) bed (v .surround .others .size) (v .bed .level .powers .size)
       (bed-samples c v bed (a .whole .bed-length) ∙ ap (λ (n : ℕ). n * frameLength) (sym (channels-valid lay (v .surround .layout))))
 
   bed-reading : model.bedReading lay (m .bed) bed ≡ framed .framed .reading
-  bed-reading = ap (λ (x : Meters). metersReading (usedWeights lay) x (model.channelsIn lay bed)) (l .bed .level) ∙ sym (keeps .1)
+  bed-reading = ap (λ (x : Meters). metersReading (usedWeights lay) x (channelsIn lay bed)) (l .bed .level) ∙ sym (keeps .1)
 
-  bed-next : Bedded (framed .surround) (framed .framed .level) (metersNext (usedWeights lay) (m .bed .level) (model.channelsIn lay bed))
-  bed-next = ap (λ (x : Meters). metersNext (usedWeights lay) x (model.channelsIn lay bed)) (l .bed .level) ∙ sym (keeps .0)
+  bed-next : Bedded (framed .surround) (framed .framed .level) (metersNext (usedWeights lay) (m .bed .level) (channelsIn lay bed))
+  bed-next = ap (λ (x : Meters). metersNext (usedWeights lay) x (channelsIn lay bed)) (l .bed .level) ∙ sym (keeps .0)
 
   first-length : length (firstChannel bed) ≡ 480
   first-length = length-take frameLength bed ∙ omega (arith, bed-samples c v bed (a .whole .bed-length), v .surround .layout .some)
@@ -164,11 +164,11 @@ module _ (c : Chain) (m : model.RustChain) (v : Valid c) (l : Like c m) (key bed
 
   bed-state : model.bedPush lay (m .bed) bed bs .state ≡ bedFrame .state
   unfolding model.bedPush bedStrandOf
-  bed-state = decide-state (c .bed) (m .bed) (l .bed) (firstChannel bed) first-length bs (framed .framed) (model.bedReading lay (m .bed) bed) (metersNext (usedWeights lay) (m .bed .level) (model.channelsIn lay bed)) bed-reading bed-finite
+  bed-state = decide-state (c .bed) (m .bed) (l .bed) (firstChannel bed) first-length bs (framed .framed) (model.bedReading lay (m .bed) bed) (metersNext (usedWeights lay) (m .bed .level) (channelsIn lay bed)) bed-reading bed-finite
 
   bed-agrees : vad.AgreesBy (Bedded (framed .surround)) (bedFrame .strand) (model.bedPush lay (m .bed) bed bs)
   unfolding model.bedPush bedStrandOf
-  bed-agrees = decide-agrees (c .bed) (m .bed) (l .bed) (firstChannel bed) first-length bs (framed .framed) (model.bedReading lay (m .bed) bed) (metersNext (usedWeights lay) (m .bed .level) (model.channelsIn lay bed)) bed-reading bed-finite (Bedded (framed .surround)) bed-next
+  bed-agrees = decide-agrees (c .bed) (m .bed) (l .bed) (firstChannel bed) first-length bs (framed .framed) (model.bedReading lay (m .bed) bed) (metersNext (usedWeights lay) (m .bed .level) (channelsIn lay bed)) bed-reading bed-finite (Bedded (framed .surround)) bed-next
 
   bed-reads : model.bedReading lay (m .bed) bed ≡ bedFrame .reading
   unfolding bedStrandOf strand.finishOf

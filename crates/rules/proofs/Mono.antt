@@ -1,35 +1,32 @@
 -- With one channel at 0, 0 a chain does what it did before beds had layouts.
-use Prim.Native.Nat.{ℕ}
 use native.Mathlib.Omega.{arith}
-use mathlib.Core.Path.{_≡_, refl, sym, ap, ap₂, _∙_, subst}
+use mathlib.Core.Path.{_≡_, refl, ap, _∙_}
 use mathlib.Core.Bool.{Bool, true, false, not, cond, _||_}
 use mathlib.Core.List.{List, [], _∷_}
 use lib.Dec.{eqb}
 use lib.ListN.{length, take}
 use lib.Seq.{take-all}
 use lib.Ieee.{Float}
-use borrow.Author.Tests.{eqb-true}
+use borrow.Author.Tests.{eqb-true, not-false}
 use Rattle.refusal.specs.declared.Refusal.the-variants.{ShortFrame, BadSample, Runaway, CounterFull}
 use Rattle.refusal.specs.Table.{Row, _means_, firstNumber}
 use Rattle.demands.specs.Calls.{Log, empty, _▹_}
 use Rattle.demands.specs.Demands.{stateOf}
 use Rattle.demands.proofs.Table.{first-passes}
-use Rattle.sequence.proofs.Tests.{neither, holds}
+use Rattle.sequence.proofs.Tests.{neither}
 use Rattle.level.specs.Bs1770.{frameLength}
 use Rattle.level.specs.Level as level
-use Rattle.channels.specs.declared.BedFramed.{BedFramed}
 use Rattle.channels.specs.Surround.{monoSurround}
 use Rattle.channels.proofs.Promised.{bed-laws}
 use Rattle.detector.specs.Detector as detector
 use Rattle.vad.specs.Strand as strand
-use Rattle.ratio.specs.Frame as ratio
 use Rattle.chain.specs.declared.Chain.{Chain}
 use Rattle.chain.specs.declared.Worked.{Worked}
-use Rattle.chain.specs.Base.{Base, widened, freshBase, BaseWorked, baseWork, baseFinite, baseFull, baseKept, baseAnswer, baseSet, baseReset}
+use Rattle.chain.specs.Base.{Base, widened, BaseWorked, baseWork, baseFinite, baseFull}
 use Rattle.chain.specs.Chain.{bedLevelOf, bedStrandOf, workedOf, workOf, answerOf, finiteIn, fullIn, keptOf, keyAnew, bedAnew}
 use Rattle.rules.specs.Rules as all
 use Rattle.rules.specs.Rules.{rules, badSample, frameNumber}
-use Rattle.rules.specs.Mono.{BaseEvent, frame, settings, reset, shortFrame, frameRows, refuses, next, answers, baseRules, called, calledAll, Passing, MonoIsBase, AsBase}
+use Rattle.rules.specs.Mono.{BaseEvent, frame, settings, reset, shortFrame, refuses, next, answers, baseRules, called, calledAll, Passing, AsBase}
 
 -- ---- a frame of 480 samples
 
@@ -84,7 +81,7 @@ module _ (b : Base) (key bed : List Float) where
   passed-length z =
       let rows = badSample key bed means BadSample ∷ not (baseFinite w₁) means Runaway ∷ baseFull w₁ means CounterFull ∷ [] in
       let two = neither (not (eqb (length key) frameLength)) (not (eqb (length bed) frameLength)) (first-passes (shortFrame key bed) ShortFrame rows z .0) in
-      eqb-true (length bed) frameLength (holds (eqb (length bed) frameLength) (two .1))
+      eqb-true (length bed) frameLength (not-false (eqb (length bed) frameLength) (two .1))
 
 -- ---- any call
 

@@ -15,10 +15,9 @@ use Rattle.level.specs.Heard as one-channel
 use Rattle.layout.specs.declared.Layout.{Layout}
 use Rattle.layout.specs.Layout.{monoOf, storedOf}
 use Rattle.layout.specs.Weights.{usedWeights}
-use Rattle.channels.specs.Channels.{parts}
 use Rattle.channels.specs.Bs1770 as channels
 use Rattle.channels.specs.Bs1770.{Source}
-use Rattle.channels.specs.Heard.{each, sources, channelsOf}
+use Rattle.channels.specs.Heard.{each, sources, channelsOf, channelsIn}
 use Rattle.vad.specs.declared.VadState.{VadState}
 use Rattle.vad.specs.State.{tenthsOf}
 use Rattle.comis.specs.declared.Shown as duck
@@ -43,10 +42,7 @@ layoutIn (h ▹ settings a) = layoutIn h
 layoutIn (h ▹ reset n) = layoutIn h
 layoutIn (h ▹ layout l) = storedOf l
 
--- a frame of the bed, channel by channel; and nothing, for each channel
-abbrev pub channelsIn : Layout → List Float → List (List Float)
-channelsIn l bed = parts (channelsOf l) bed
-
+-- nothing, for each channel
 abbrev pub nothing : Layout → List (List Float)
 nothing l = replicate (channelsOf l) []
 

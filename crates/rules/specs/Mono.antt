@@ -12,7 +12,6 @@ use Rattle.demands.specs.Calls as calls
 use Rattle.demands.specs.Calls.{Log, empty, _▹_}
 use Rattle.demands.specs.Demands.{stateOf}
 use Rattle.level.specs.Bs1770.{frameLength}
-use Rattle.float.specs.AllFinite.{allFinite}
 use Rattle.chain.specs.Base.{Base, widened, freshBase, baseWork, baseFinite, baseFull, baseKept, baseAnswer, baseSet, baseReset}
 use Rattle.rules.specs.Rules.{Asked, Event, Answered, shown, noted, badSample, settingsNumber, resetNumber, Finite, rules}
 use Rattle.rules.specs.Rules as all

@@ -12,9 +12,8 @@ use Rattle.level.specs.Deque.{Meter, meterReading}
 use Rattle.layout.specs.declared.Layout.{Layout}
 use Rattle.layout.specs.Layout as layouts
 use Rattle.layout.specs.Weights.{usedWeights}
-use Rattle.channels.specs.Channels.{parts}
 use Rattle.channels.specs.Deque.{Meters, newMeters, metersNext, metersReading}
-use Rattle.channels.specs.Heard.{channelsOf}
+use Rattle.channels.specs.Heard.{channelsOf, channelsIn}
 use Rattle.detector.specs.Rust as detector
 use Rattle.vad.specs.declared.VadSettings.{VadSettings}
 use Rattle.vad.specs.Rust.{RustVad, newWith, newVad, resetWith, rustReset, rustDecide, rustPush}
@@ -41,10 +40,6 @@ abbrev pub newChain : RustChain
 newChain = record { settings = freshSettings; key = newVad; bed = newWith (newBed layouts.monoOf); layout = layouts.monoOf; ducker = ratio.new freshDuck }
 
 -- ---- a frame
-
--- a bed's samples, channel by channel
-abbrev pub channelsIn : Layout → List Float → List (List Float)
-channelsIn l bed = parts (channelsOf l) bed
 
 abbrev pub bedReading : Layout → RustVad Meters → List Float → Reading
 bedReading l v bed = metersReading (usedWeights l) (v .level) (channelsIn l bed)

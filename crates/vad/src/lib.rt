@@ -16,7 +16,7 @@ ghost use Rattle.vad.specs.Decision.{
   decideOf,
   fullOf,
 };
-ghost use Rattle.vad.specs.State.{tenthsOf, hundredthsOf, roundedOf, speechLevelOf, stateOf, powerNumber, levelNumber, handedOf, numbersOf};
+ghost use Rattle.vad.specs.State.{tenthsOf, hundredthsOf, roundedOf, speechLevelOf, stateOf, powerNumber, levelNumber, numbersOf};
 ghost use Rattle.vad.specs.Strand.{noSpeech, freshOf, finishOf, frameOf, stoppedOf, resetOf};
 ghost use Rattle.float.specs.AllFinite.{allFinite};
 use detector::FeatureDetector;

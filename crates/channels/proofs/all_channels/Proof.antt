@@ -4,7 +4,6 @@ use mathlib.Core.List.{List, _∷_}
 use lib.ListN.{length}
 use Rattle.channels.specs.declared.Channel.{Channel}
 use Rattle.channels.specs.Runs.{pastChannel}
-use Rattle.channels.specs.Surround.{ownOf}
 use Rattle.sequence.proofs.Sized.{unmapped}
 use Rattle.channels.proofs.Cut.{places-from}
 use borrow.Author.Needs.{needs}
@@ -34,10 +33,10 @@ array-copy-out-h c = search needs
 
 returns : tie.Need-returns
 returns c =
-    let a = c .before .before .before .before .before .before .before .before .before .args in
-    let own = c .before .before .before .before .before .before .before .before .before .good .1 .0 in
+    let a = c .before .before .before .before .before .before .before .args in
+    let own = c .before .before .before .before .before .before .before .good .1 .0 in
     let l : length (a .t2) ≡ 7 = search (unmapped, own) in
-    ap (λ (r : List Channel). ownOf (a .level) ∷ r) (places-from pastChannel 7 0 (a .t2) l)
+    ap (λ (r : List Channel). a .own ∷ r) (places-from pastChannel 7 0 (a .t2) l)
 
 pub all-channels-spec : {M : Type 1} → statement M
 all-channels-spec =

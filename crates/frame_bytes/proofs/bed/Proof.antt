@@ -18,13 +18,13 @@ mul-strands c = let a = c .before .args in record { fits = omega (arith, place-m
 add-strands : tie.Need-add-strands
 add-strands c = let a = c .before .args in record { fits = omega (arith, place-most (a .count) (a .i) _ (c .size .ensures) (omega arith)) }
 
-channels-requires : tie.Need-channels-requires
-channels-requires c κs = search needs
+channel-count-requires : tie.Need-channel-count-requires
+channel-count-requires c κs = search needs
 
 strands-requires : tie.Need-strands-requires
 strands-requires c κs =
     let a = c .before .before .before .args in
-    let n = c .before .channels .ensures in
+    let n = c .before .channel-count .ensures in
     (omega (arith, place-most (a .count) (a .i) _ (c .before .before .size .ensures) (omega arith)), omega (arith, n), omega (arith, n))
 
 returns : tie.Need-returns
@@ -32,9 +32,9 @@ unfolding bedSamples
 returns c =
     let a = c .before .before .before .before .args in
     c .strands .ensures
-    ∙ (λ j. laid (samplesAt (a .buffer .now) (a .i * c .before .before .before .size .ensures j + 1920) (c .before .before .channels .ensures j * 480)) (a .x .now))
+    ∙ (λ j. laid (samplesAt (a .buffer .now) (a .i * c .before .before .before .size .ensures j + 1920) (c .before .before .channel-count .ensures j * 480)) (a .x .now))
 
 pub bed-spec : {M : Type 1} → statement M
 bed-spec =
     tie.close
-    (tie.spec size-requires mul-strands add-strands channels-requires strands-requires returns)
+    (tie.spec size-requires mul-strands add-strands channel-count-requires strands-requires returns)

@@ -7,15 +7,15 @@ use Rattle.frame_bytes.specs.Bytes.{bedSamples}
 use Rattle.frame_bytes.proofs.bed_samples.Statement.{statement}
 use Rattle.frame_bytes.proofs.bed_samples.Tie as tie
 
-channels-requires : tie.Need-channels-requires
-channels-requires c κs = search needs
+channel-count-requires : tie.Need-channel-count-requires
+channel-count-requires c κs = search needs
 
 mul-result : tie.Need-mul-result
-mul-result c = omega (arith, c .channels .ensures)
+mul-result c = omega (arith, c .channel-count .ensures)
 
 returns : tie.Need-returns
 unfolding bedSamples
-returns c = ap (λ (n : ℕ). n * 480) (c .channels .ensures)
+returns c = ap (λ (n : ℕ). n * 480) (c .channel-count .ensures)
 
 pub bed-samples-spec : {M : Type 1} → statement M
-bed-samples-spec = tie.close (tie.spec channels-requires mul-result returns)
+bed-samples-spec = tie.close (tie.spec channel-count-requires mul-result returns)

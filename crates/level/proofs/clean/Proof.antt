@@ -1,19 +1,12 @@
 -- `level::clean` meets its contract: what is finite is a number, so it can be widened.
-use mathlib.Core.Bool.{true, not, true≢false, _&&_}
-use mathlib.Core.Path.{_≡_, sym, subst, _∙_}
+use mathlib.Core.Path.{sym, subst, _∙_}
 use borrow.Author.Needs.{needs}
 use lib.Dec.{T}
-use lib.Ieee.{Float, nan, inf, fin, binary32, binary64, fits, isNan}
-use lib.Ieee.Fits.{fits-widens, and-i}
 use lib.Ieee.Scale.{finite}
+use Rattle.sequence.proofs.Tests.{told}
+use Rattle.level.proofs.Finite.{widens}
 use Rattle.level.proofs.clean.Statement.{statement}
 use Rattle.level.proofs.clean.Tie as tie
-
-number : (v : Float) → finite v ≡ true → T (fits binary32 v) → T (fits binary64 v && not (isNan v))
-unfolding isNan
-number nan e t = absurd (true≢false (sym e))
-number (inf s) e t = absurd (true≢false (sym e))
-number (fin s m x) e t = and-i (fits binary64 (fin s m x)) true (fits-widens (fin s m x) t) tt
 
 finite32-requires : tie.Need-finite32-requires
 finite32-requires c κs = search needs
@@ -21,7 +14,7 @@ finite32-requires c κs = search needs
 float-to-float-result : tie.Need-float-to-float-result
 float-to-float-result c =
     let a = c .before .before .before in
-    number (a .args .v) (sym (c .before .before .finite32 .ensures) ∙ c .before .if1 .taken) (subst T (sym (a .good .0 .1)) tt)
+    widens (a .args .v) (told (finite (a .args .v)) (sym (c .before .before .finite32 .ensures) ∙ c .before .if1 .taken)) (subst T (sym (a .good .0 .1)) tt)
 
 returns : tie.Need-returns
 returns c = search needs

@@ -1,6 +1,4 @@
 -- `answer` meets its contract: three runs of words.
-use mathlib.Core.Path.{_≡_}
-use lib.ListN.{length}
 use Rattle.words.proofs.Whole.{whole}
 use borrow.Author.Needs.{needs}
 use Rattle.words.proofs.answer.Statement.{statement}

@@ -1,9 +1,6 @@
 -- `run_four` meets its contract.
 use native.Mathlib.Omega.{arith}
-use mathlib.Core.Path.{ap, _∙_}
-use mathlib.Core.List.{List}
-use lib.ListN.{length}
-use lib.Ieee.{Float}
+use mathlib.Core.Path.{_∙_}
 use Rattle.level.specs.Weighing.{runOf}
 use Rattle.channels.specs.Pairs.{fourOf}
 use Rattle.channels.specs.Runs.{weighingOf}
@@ -66,12 +63,12 @@ samples-requires-4 c κs =
 
 weigh-four-requires : tie.Need-weigh-four-requires
 weigh-four-requires c κs =
-    let a = c .before .before .before .before .before .before .before .before .before .before .before .before .before .args in
+    let xs = c .before .before .before .before .before .before .before .before .before .before .before .before .before .args .xs .now in
     let p = c .before .before .before .before .before .before .before .before .before .before .before .before .before .pre in (
-      ap (λ (l : List Float). length l) (c .before .before .before .samples .ensures) ∙ whole-samples (a .xs .now) (a .a) (p .0 .1),
-      ap (λ (l : List Float). length l) (c .before .before .samples2 .ensures) ∙ whole-samples (a .xs .now) (a .b) (p .1 .1),
-      ap (λ (l : List Float). length l) (c .before .samples3 .ensures) ∙ whole-samples (a .xs .now) (a .c) (p .2 .1),
-      ap (λ (l : List Float). length l) (c .samples4 .ensures) ∙ whole-samples (a .xs .now) (a .d) (p .3 .1),
+      whole-samples xs _ _ (c .before .before .before .samples .ensures) (p .0 .1) (p .4),
+      whole-samples xs _ _ (c .before .before .samples2 .ensures) (p .1 .1) (p .4),
+      whole-samples xs _ _ (c .before .samples3 .ensures) (p .2 .1) (p .4),
+      whole-samples xs _ _ (c .samples4 .ensures) (p .3 .1) (p .4),
     )
 
 returns : tie.Need-returns

@@ -46,6 +46,7 @@ run-four-requires c κs =
       (omega (arith, p .0, p .1, c .before .before .least2 .ensures), omega (arith, p .0, p .2, c .before .before .least2 .ensures)),
       (omega (arith, p .0, p .1, c .before .least3 .ensures), omega (arith, p .0, p .2, c .before .least3 .ensures)),
       (omega (arith, p .0, p .1, c .least4 .ensures), omega (arith, p .0, p .2, c .least4 .ensures)),
+      p .3,
     )
 
 put-four-requires : tie.Need-put-four-requires
@@ -105,6 +106,7 @@ run-four-requires-2 c κs =
       (omega (arith, p .0, p .1, c .before .before .least6 .ensures), omega (arith, p .0, p .2, c .before .before .least6 .ensures)),
       (omega (arith, p .0, p .1, c .before .least7 .ensures), omega (arith, p .0, p .2, c .before .least7 .ensures)),
       (omega (arith, p .0, p .1, c .least8 .ensures), omega (arith, p .0, p .2, c .least8 .ensures)),
+      p .3,
     )
 
 put-four-requires-2 : tie.Need-put-four-requires-2

@@ -1,7 +1,7 @@
 -- `detector::fill` meets its contract. The loop's invariant: what is stored, with as many values as there are places left, is what is to be stored.
 use Prim.Native.Nat.{ℕ, suc, _+_, _-_, _≤_}
 use native.Mathlib.Omega.{arith}
-use mathlib.Core.Path.{_≡_, refl, sym, subst, _∙_, ap}
+use mathlib.Core.Path.{_≡_, refl, sym, _∙_, ap}
 use mathlib.Core.List.{_++_}
 use lib.ListN.{length, take, replicate, length-set}
 use borrow.Author.Needs.{needs}

@@ -4,7 +4,6 @@ use native.Mathlib.Omega.{arith}
 use mathlib.Core.Path.{_≡_, sym, subst}
 use lib.ListN.{length}
 use borrow.Author.Needs.{needs}
-use Rattle.detector.specs.declared.voicing.Eight.{Eight}
 use Rattle.detector.specs.EightLags.{Left}
 use Rattle.detector.proofs.Lagged.{left-start}
 use Rattle.detector.proofs.voicing.eight_lags.Statement.{statement}
