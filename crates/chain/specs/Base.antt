@@ -28,6 +28,10 @@ pub record Base : Type 0 where
 abbrev pub widened : Base → Chain
 widened b = record { settings = b .settings; key = b .key; bed = b .bed; loops = b .loops; surround = monoSurround }
 
+-- all of a chain but the layout and channels 2 to 8
+abbrev pub baseOf : Chain → Base
+baseOf c = record { settings = c .settings; key = c .key; bed = c .bed; loops = c .loops }
+
 abbrev pub freshBase : Base
 freshBase = record { settings = freshSettings; key = strand.freshOf; bed = strand.freshOf; loops = ratio.zeroLoops }
 

@@ -20,13 +20,13 @@ use Rattle.chain.specs.declared.Changed.{Changed}
 use Rattle.chain.specs.declared.Verdict.{Verdict}
 use Rattle.chain.specs.declared.Verdict.the-variants.{Passed, Refused}
 use Rattle.chain.specs.Chain.{changed, unchanged}
-use Rattle.chain.specs.Base.{widened}
+use Rattle.chain.specs.Base.{widened, baseOf}
 use Rattle.codec.specs.Run.{Run}
 use Rattle.image.specs.Layout.{blockCount, imageBytes, payloadWords}
 use Rattle.image.specs.Edition.{Edition, imageIn, oursIn}
 use Rattle.image.specs.Edition1.{base, firstEdition}
 use Rattle.image.specs.Edition1 as first
-use Rattle.image.specs.Chain.{baseOf, chain, secondEdition}
+use Rattle.image.specs.Chain.{chain, secondEdition}
 use Rattle.image.specs.Image.{oldLength, meaning, restoredIn, saveVerdict, savedIn, restoreOf}
 use Rattle.image.proofs.Edition as edition
 use Rattle.image.proofs.Laws.{first-laws, second-laws, not-old, meaning-old, meaning-new, restore-old, restore-new}

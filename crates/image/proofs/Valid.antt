@@ -20,14 +20,14 @@ use Rattle.channels.specs.Surround.{monoSurround}
 use Rattle.channels.specs.Valid.{SurroundValid}
 use Rattle.channels.proofs.Valid.{surround-fresh}
 use Rattle.chain.specs.declared.Chain.{Chain}
-use Rattle.chain.specs.Base.{Base, widened}
+use Rattle.chain.specs.Base.{Base, widened, baseOf}
 use Rattle.settings.specs.Settings.{imageRanges, outsideOf, outsideStrand, outsideDuck, outsideSettings, zeroedOf}
 use Rattle.chain.specs.Valid.{Valid}
 use Rattle.settings.specs.Valid.{SettingValid, StrandSettingsValid, DuckValid, SettingsValid}
 use Rattle.strand_image.proofs.Codecs.{zero-bits}
 use Rattle.strand_image.proofs.Valid.{strand-valid, valid-strand}
 use Rattle.surround_image.proofs.Valid.{surround-valid, valid-surround}
-use Rattle.image.specs.Chain.{strandSettings, duck, signedOf, signedStrand, signedDuck, signedSettings, numbers, settings, loops, body, baseOf, withSurround, chain}
+use Rattle.image.specs.Chain.{strandSettings, duck, signedOf, signedStrand, signedDuck, signedSettings, numbers, settings, loops, body, withSurround, chain}
 use Rattle.image.specs.Edition1.{base}
 
 -- ---- tests

@@ -13,7 +13,7 @@ use Rattle.comis.specs.declared.loop_bank.Loops.{Loops}
 use Rattle.settings.specs.declared.Settings.{Settings}
 use Rattle.channels.specs.declared.Surround.{Surround}
 use Rattle.chain.specs.declared.Chain.{Chain}
-use Rattle.chain.specs.Base.{Base}
+use Rattle.chain.specs.Base.{Base, baseOf}
 use Rattle.settings.specs.Settings.{imageRanges, outsideSettings, freshSettings}
 use Rattle.comis.specs.LoopBank.{db}
 use Rattle.strand_image.specs.Strand.{strand}
@@ -82,9 +82,6 @@ body = as-a (λ b. (b .settings, (b .key, (b .bed, b .loops)))) (λ p. record { 
     (pair settings (pair strand (pair strand loops)))
 
 -- ---- the chain: the edition, the body, the bed's channels, and the unused words
-
-abbrev pub baseOf : Chain → Base
-baseOf c = record { settings = c .settings; key = c .key; bed = c .bed; loops = c .loops }
 
 abbrev pub withSurround : Base → Surround → Chain
 withSurround b s = record { settings = b .settings; key = b .key; bed = b .bed; loops = b .loops; surround = s }

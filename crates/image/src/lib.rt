@@ -17,11 +17,10 @@ ghost use Rattle.image.specs.Chain.{
   settings,
   loops,
   body,
-  baseOf,
   withSurround,
   chain,
 };
-ghost use Rattle.chain.specs.Base.{widened};
+ghost use Rattle.chain.specs.Base.{widened, baseOf};
 ghost use Rattle.image.specs.Layout.{bodyWords, payloadWords};
 ghost use Rattle.image.specs.Edition1 as first;
 ghost use Rattle.image.specs.Image.{saveVerdict, savedIn, restoreOf};

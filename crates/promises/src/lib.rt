@@ -42,7 +42,8 @@ pub fn readings()
     ensures { λ _. ⌜ ReadsBs1770 ⌝ }
 {}
 
-// With one channel at 0, 0 every call on a chain gets what it got before beds had layouts, over every list of frames, settings calls and resets.
+// With one channel at 0, 0 every call on a chain gets what it got before beds had layouts: from every such chain, over every list of frames, settings
+// calls and resets.
 pub fn one_channel()
     ensures { λ _. ⌜ AsBase ⌝ }
 {}

@@ -1,22 +1,28 @@
 -- With one channel at 0, 0 a chain does what it did before beds had layouts.
+use Prim.Native.Nat.{_-_}
 use native.Mathlib.Omega.{arith}
-use mathlib.Core.Path.{_≡_, refl, ap, _∙_}
+use mathlib.Core.Path.{_≡_, refl, sym, ap, _∙_}
 use mathlib.Core.Bool.{Bool, true, false, not, cond, _||_}
 use mathlib.Core.List.{List, [], _∷_}
 use lib.Dec.{eqb}
-use lib.ListN.{length, take}
-use lib.Seq.{take-all}
+use lib.ListN.{length, take, replicate, length-replicate}
+use lib.Seq.{take-all, ext-getD}
 use lib.Ieee.{Float}
 use borrow.Author.Tests.{eqb-true, not-false}
 use Rattle.refusal.specs.declared.Refusal.the-variants.{ShortFrame, BadSample, Runaway, CounterFull}
 use Rattle.refusal.specs.Table.{Row, _means_, firstNumber}
 use Rattle.demands.specs.Calls.{Log, empty, _▹_}
-use Rattle.demands.specs.Demands.{stateOf}
 use Rattle.demands.proofs.Table.{first-passes}
+use Rattle.sequence.proofs.Filled.{all-blank}
 use Rattle.sequence.proofs.Tests.{neither}
 use Rattle.level.specs.Bs1770.{frameLength}
 use Rattle.level.specs.Level as level
-use Rattle.channels.specs.Surround.{monoSurround}
+use Rattle.layout.specs.declared.Layout.{Layout}
+use Rattle.layout.specs.Layout.{monoOf}
+use Rattle.channels.specs.declared.Surround.{Surround}
+use Rattle.channels.specs.Channels.{resting}
+use Rattle.channels.specs.Surround.{otherChannels, restingOthers, monoSurround}
+use Rattle.channels.specs.Valid.{SurroundValid}
 use Rattle.channels.proofs.Promised.{bed-laws}
 use Rattle.detector.specs.Detector as detector
 use Rattle.vad.specs.Strand as strand
@@ -26,7 +32,7 @@ use Rattle.chain.specs.Base.{Base, widened, BaseWorked, baseWork, baseFinite, b
 use Rattle.chain.specs.Chain.{bedLevelOf, bedStrandOf, workedOf, workOf, answerOf, finiteIn, fullIn, keptOf, keyAnew, bedAnew}
 use Rattle.rules.specs.Rules as all
 use Rattle.rules.specs.Rules.{rules, badSample, frameNumber}
-use Rattle.rules.specs.Mono.{BaseEvent, frame, settings, reset, shortFrame, refuses, next, answers, baseRules, called, calledAll, Passing, AsBase}
+use Rattle.rules.specs.Mono.{BaseEvent, frame, settings, reset, shortFrame, refuses, next, answers, baseRules, called, calledAll, stateFrom, Passing, MonoIsBase, AsBase}
 
 -- ---- a frame of 480 samples
 
@@ -108,16 +114,33 @@ called-next b (reset n) z = go (eqb n 0)
 
 -- ---- lists
 
-state-is : (es : Log BaseEvent) → Passing es → stateOf rules (calledAll es) ≡ widened (stateOf baseRules es)
-unfolding stateOf
-state-is empty p = refl
-state-is (es ▹ e) p = ap (λ (c : Chain). all.next c (called e)) (state-is es (p .0)) ∙ called-next (stateOf baseRules es) e (p .1)
+state-is : (b : Base) (es : Log BaseEvent) → Passing b es → stateFrom rules (widened b) (calledAll es) ≡ widened (stateFrom baseRules b es)
+state-is b empty p = refl
+state-is b (es ▹ e) p = ap (λ (c : Chain). all.next c (called e)) (state-is b es (p .0)) ∙ called-next (stateFrom baseRules b es) e (p .1)
 
-pub as-base : AsBase
-as-base es e p =
-    let s = state-is es p in
+mono-is-base : (b : Base) (es : Log BaseEvent) (e : BaseEvent) → Passing b es → MonoIsBase b es e
+mono-is-base b es e p =
+    let s = state-is b es p in
     record {
       state = s;
-      number = ap (λ (c : Chain). all.refuses c (called e)) s ∙ called-number (stateOf baseRules es) e;
-      answer = λ z. ap (λ (c : Chain). all.answers c (called e)) s ∙ called-answer (stateOf baseRules es) e z;
+      number = ap (λ (c : Chain). all.refuses c (called e)) s ∙ called-number (stateFrom baseRules b es) e;
+      answer = λ z. ap (λ (c : Chain). all.answers c (called e)) s ∙ called-answer (stateFrom baseRules b es) e z;
     }
+
+-- ---- which chains have one channel at 0, 0
+
+-- no other channel is in use, so all of them rest
+mono-surround : (s : Surround) → SurroundValid s → s .layout ≡ monoOf → s ≡ monoSurround
+unfolding restingOthers
+mono-surround s v e =
+    let none = ap (λ (l : Layout). l .count - 1) e in
+    let rest = ext-getD resting (s .others) (replicate otherChannels resting) (v .others .size ∙ sym (length-replicate otherChannels resting))
+    (λ k h. v .others .rest k (omega (arith, none)) ∙ sym (all-blank resting otherChannels k)) in
+    λ i. record { layout = e i; others = rest i }
+
+pub as-base : AsBase
+as-base = record {
+  lists = mono-is-base;
+  fresh = refl;
+  mono = λ c v e. λ i. record { settings = c .settings; key = c .key; bed = c .bed; loops = c .loops; surround = mono-surround (c .surround) (v .surround) e i };
+}

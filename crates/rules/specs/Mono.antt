@@ -1,4 +1,5 @@
--- With one channel at 0, 0 a chain does what it did before beds had layouts: over every list of frames, settings calls and resets.
+-- With one channel at 0, 0 a chain does what it did before beds had layouts: from every such chain, fresh, restored or laid out so, over every list of
+-- frames, settings calls and resets.
 use Prim.Native.Nat.{ℕ}
 use mathlib.Core.Path.{_≡_}
 use mathlib.Core.Bool.{Bool, not, _||_}
@@ -10,9 +11,12 @@ use Rattle.refusal.specs.declared.Refusal.the-variants.{ShortFrame, BadSample, 
 use Rattle.refusal.specs.Table.{Row, _means_, firstNumber}
 use Rattle.demands.specs.Calls as calls
 use Rattle.demands.specs.Calls.{Log, empty, _▹_}
-use Rattle.demands.specs.Demands.{stateOf}
 use Rattle.level.specs.Bs1770.{frameLength}
-use Rattle.chain.specs.Base.{Base, widened, freshBase, baseWork, baseFinite, baseFull, baseKept, baseAnswer, baseSet, baseReset}
+use Rattle.layout.specs.Layout.{monoOf}
+use Rattle.chain.specs.declared.Chain.{Chain}
+use Rattle.chain.specs.Chain.{freshOf}
+use Rattle.chain.specs.Valid.{Valid}
+use Rattle.chain.specs.Base.{Base, widened, baseOf, freshBase, baseWork, baseFinite, baseFull, baseKept, baseAnswer, baseSet, baseReset}
 use Rattle.rules.specs.Rules.{Asked, Event, Answered, shown, noted, badSample, settingsNumber, resetNumber, Finite, rules}
 use Rattle.rules.specs.Rules as all
 
@@ -73,16 +77,27 @@ abbrev pub calledAll : Log BaseEvent → Log Event
 calledAll empty = empty
 calledAll (es ▹ e) = calledAll es ▹ called e
 
--- each call of a list passes in its turn
-abbrev pub Passing : Log BaseEvent → Type 0
-Passing empty = Unit {0}
-Passing (es ▹ e) = Passing es × (refuses (stateOf baseRules es) e ≡ 0)
+-- the state after a list of calls of which the first gets s
+abbrev pub stateFrom : (R : calls.Rules) → R .State → Log (R .Event) → R .State
+stateFrom R s empty = s
+stateFrom R s (es ▹ e) = R .next (stateFrom R s es) e
 
--- THE PROMISE: after every list of accepted calls the state is that of one channel, and the next call gets that number and that answer
-pub record MonoIsBase (es : Log BaseEvent) (e : BaseEvent) : Type 0 where
-  pub state : stateOf rules (calledAll es) ≡ widened (stateOf baseRules es)
-  pub number : all.refuses (stateOf rules (calledAll es)) (called e) ≡ refuses (stateOf baseRules es) e
-  pub answer : refuses (stateOf baseRules es) e ≡ 0 → all.answers (stateOf rules (calledAll es)) (called e) ≡ answers (stateOf baseRules es) e
+-- each call of a list passes in its turn, the first on b
+abbrev pub Passing : Base → Log BaseEvent → Type 0
+Passing b empty = Unit {0}
+Passing b (es ▹ e) = Passing b es × (refuses (stateFrom baseRules b es) e ≡ 0)
 
-abbrev pub AsBase : Type 0
-AsBase = (es : Log BaseEvent) (e : BaseEvent) → Passing es → MonoIsBase es e
+-- after a list of accepted calls the state is that of one channel, and the next call gets that number and that answer
+pub record MonoIsBase (b : Base) (es : Log BaseEvent) (e : BaseEvent) : Type 0 where
+  pub state : stateFrom rules (widened b) (calledAll es) ≡ widened (stateFrom baseRules b es)
+  pub number : all.refuses (stateFrom rules (widened b) (calledAll es)) (called e) ≡ refuses (stateFrom baseRules b es) e
+  pub answer : refuses (stateFrom baseRules b es) e ≡ 0
+      → all.answers (stateFrom rules (widened b) (calledAll es)) (called e) ≡ answers (stateFrom baseRules b es) e
+
+-- THE PROMISE
+pub record AsBase : Type 0 where
+  -- from every chain of one channel, over every list
+  pub lists : (b : Base) (es : Log BaseEvent) (e : BaseEvent) → Passing b es → MonoIsBase b es e
+  -- such chains are a fresh one, and every chain that an image can hold whose layout is one channel at 0, 0
+  pub fresh : freshOf ≡ widened freshBase
+  pub mono : (c : Chain) → Valid c → c .surround .layout ≡ monoOf → c ≡ widened (baseOf c)
