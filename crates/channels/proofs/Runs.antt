@@ -31,7 +31,7 @@ complete-all cs n xs ws e c =
     ext-getD pastWeighing (take n ws) (weighingsOf cs n xs) (taken ∙ sym size)
     (λ i h. getD-take n ws i pastWeighing (omega (arith, taken)) ∙ c .each i (omega (arith, taken)) ∙ sym (weighings-at cs xs n i (omega (arith, taken)) (omega (arith, taken, e))))
 
--- a channel that the slice reaches has its 480 samples
+-- a channel that the slice reaches has its 480 samples, all finite where those of the slice are
 pub whole-samples : (xs ys : List Float) (c : ℕ) → ys ≡ samplesOf c xs → c * 480 + 480 ≤ length xs → T (allFinite xs) → Whole ys
 whole-samples xs ys c e h t = record {
   samples = ap (λ (l : List Float). length l) e ∙ length-take 480 (drop (c * 480) xs) ∙ omega (arith, length-drop (c * 480) xs);

@@ -217,7 +217,7 @@ impl Surround {
         }
     }
 
-    // What they leave of any channels.
+    // What the filters leave of any channels.
     fn filtered_all(self, first: Weighing, own: Channel, xs: &[f32]) -> Filtered
         ensures { λ r. ⌜ (first ≡ runOf (beginOf own) (take frameLength (now (xs .entry))) → r ≡ filteredOf self own (now (xs .entry))) ⌝ }
     {

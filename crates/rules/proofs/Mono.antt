@@ -5,15 +5,16 @@ use mathlib.Core.Path.{_≡_, refl, sym, ap, _∙_}
 use mathlib.Core.Bool.{Bool, true, false, not, cond, _||_}
 use mathlib.Core.List.{List, [], _∷_}
 use lib.Dec.{eqb}
-use lib.ListN.{length, take, replicate, length-replicate}
-use lib.Seq.{take-all, ext-getD}
+use lib.ListN.{length, take}
+use lib.Seq.{take-all}
 use lib.Ieee.{Float}
 use borrow.Author.Tests.{eqb-true, not-false}
 use Rattle.refusal.specs.declared.Refusal.the-variants.{ShortFrame, BadSample, Runaway, CounterFull}
 use Rattle.refusal.specs.Table.{Row, _means_, firstNumber}
 use Rattle.demands.specs.Calls.{Log, empty, _▹_}
 use Rattle.demands.proofs.Table.{first-passes}
-use Rattle.sequence.proofs.Filled.{all-blank}
+use Rattle.sequence.specs.History.{held, filled}
+use Rattle.sequence.proofs.Counted.{counted-filled}
 use Rattle.sequence.proofs.Tests.{neither}
 use Rattle.level.specs.Bs1770.{frameLength}
 use Rattle.level.specs.Level as level
@@ -22,7 +23,7 @@ use Rattle.layout.specs.Layout.{monoOf}
 use Rattle.channels.specs.declared.Surround.{Surround}
 use Rattle.channels.specs.Channels.{resting}
 use Rattle.channels.specs.Surround.{otherChannels, restingOthers, monoSurround}
-use Rattle.channels.specs.Valid.{SurroundValid}
+use Rattle.channels.specs.Valid.{ChannelValid, SurroundValid}
 use Rattle.channels.proofs.Promised.{bed-laws}
 use Rattle.detector.specs.Detector as detector
 use Rattle.vad.specs.Strand as strand
@@ -131,11 +132,10 @@ mono-is-base b es e p =
 
 -- no other channel is in use, so all of them rest
 mono-surround : (s : Surround) → SurroundValid s → s .layout ≡ monoOf → s ≡ monoSurround
-unfolding restingOthers
+unfolding restingOthers filled
 mono-surround s v e =
-    let none = ap (λ (l : Layout). l .count - 1) e in
-    let rest = ext-getD resting (s .others) (replicate otherChannels resting) (v .others .size ∙ sym (length-replicate otherChannels resting))
-    (λ k h. v .others .rest k (omega (arith, none)) ∙ sym (all-blank resting otherChannels k)) in
+    let rest = sym (counted-filled ChannelValid resting otherChannels (s .layout .count - 1) (s .others) (v .others))
+    ∙ ap (λ (l : Layout). filled resting otherChannels (held (l .count - 1) (s .others))) e in
     λ i. record { layout = e i; others = rest i }
 
 pub as-base : AsBase
