@@ -61,9 +61,10 @@ struct freightpetal_strand {
     uint64_t has_speech_level; /* flag: there was speech since the last reset */
     double speech_level_dbfs;  /* level of the frames with speech, a mean over about 1 s of them, in tenths; it stays while there is none */
     double level_dbfs;         /* level of this frame, not rounded */
-    double momentary_lufs;     /* loudness over 400 ms (BS.1770), in tenths, at least -100 */
+    double momentary_lufs;     /* loudness over 400 ms (BS.1770), or over the time since fresh, a reset or a layout where that is less;
+                                  in tenths, at least -100 */
     uint64_t gated;            /* flag: the momentary loudness, unrounded, is below gate_lufs, so that nothing counts as speech */
-    double short_term_lufs;    /* loudness over 3 s (BS.1770), in tenths, at least -100 */
+    double short_term_lufs;    /* loudness over 3 s (BS.1770), or as above, in tenths, at least -100 */
     uint64_t onsets;           /* how often speech began; a reset keeps it */
     uint64_t offsets;          /* how often it ended; a reset that ends it counts */
     double over_floor_db;      /* power between 250 Hz and 4 kHz over the noise floor, which is its least smoothed value of about 2 s, in

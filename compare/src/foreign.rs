@@ -258,9 +258,29 @@ fn huge() -> Strand {
     }
 }
 
+/// These powers, the rest fresh.
+fn holding(powers: Vec<f64>) -> Strand {
+    Strand {
+        powers,
+        ..Strand::default()
+    }
+}
+
+/// `count` powers in each strand, no two alike.
+fn short(count: usize) -> Foreign {
+    let falling = |x: f64| holding((1..=count).map(|i| x / i as f64).collect());
+    Foreign {
+        strands: [falling(0.3), falling(0.01)],
+        ..Foreign::default()
+    }
+}
+
+/// How many powers are held before a frame: around those at which a mean has all its frames.
+const SHORT: [usize; 8] = [1, 2, 38, 39, 40, 41, 298, 299];
+
 /// Images with strange words that the rules allow, and frames after them: lists nearly
 /// full, loops whose total rises in a release, an interview, huge loops, powers below 0,
-/// the smallest numbers, zeros with a minus, huge numbers.
+/// the smallest numbers, zeros with a minus, huge numbers, means over fewer frames.
 fn strange() -> Vec<Call> {
     let silent = |foreign, count| heard(foreign, silence(), silence(), count);
     let interview = |loops| {
@@ -284,8 +304,12 @@ fn strange() -> Vec<Call> {
         silent(with_key(least), 1),
         heard(zeros, minus, minus, 2),
         silent(with_key(huge()), 1),
+        silent(with_key(holding(vec![1.7e308])), 1),
     ]
-    .concat()
+    .into_iter()
+    .chain(SHORT.map(|count| heard(short(count), talker(), noise(LOW), 1)))
+    .flatten()
+    .collect()
 }
 
 /// Images with numbers that are finite and from which the next frame runs away, each in
@@ -302,10 +326,7 @@ fn runaways() -> Vec<Call> {
     let runs_away = [
         filters(1, 1e200),
         filters(5, 1e60),
-        Strand {
-            powers: vec![f64::MAX; 2],
-            ..fresh()
-        },
+        holding(vec![f64::MAX; 2]),
         Strand {
             minima: vec![-1e307],
             ..fresh()

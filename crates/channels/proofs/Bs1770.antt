@@ -18,21 +18,22 @@ use Rattle.sequence.proofs.Latest.{pushed-latest}
 use Rattle.sequence.proofs.Newest.{newest-of-latest}
 use Rattle.level.specs.declared.Joint.{Joint}
 use Rattle.level.specs.declared.Reading.{Reading}
-use Rattle.float.specs.Arithmetic.{_⊕_, _⊘_, zero64, whole}
-use Rattle.level.specs.Bs1770.{filtered, weighted, energy, smoothed}
+use Rattle.float.specs.Arithmetic.{zero64}
+use Rattle.level.specs.Bs1770.{filtered, weighted, energy, mean, smoothed, loudness}
 use Rattle.level.specs.Weighing.{cleanOf, runOf}
 use Rattle.level.specs.Level.{noChannel, zeros, lufsOf}
 use Rattle.level.specs.Deque.{dequeMean, framesWith}
-use Rattle.level.proofs.Filter.{stateAt, shelf-rest, high-pass-rest, filtered-length, weighingAt, run-at, weighted-drop}
+use Rattle.level.proofs.Deque.{mean-deque}
+use Rattle.level.proofs.Filter.{stateAt, shelf-rest, high-pass-rest, weighted-length, weighingAt, run-at, weighted-drop}
 use Rattle.channels.specs.declared.Channel.{Channel}
 use Rattle.channels.specs.Channels.{JointLevel, resting, beginOf, keptOf, parts, weighings, joinAll, jointFrameOf}
 use Rattle.channels.specs.Bs1770.{Source, jointPower, before, jointPowers, meanJoint, jointFast, power, momentary, shortTerm, fast, bs1770}
-use Rattle.channels.specs.Heard.{freshJoint, Whole, Weights, each, cleaned, heard, sources, jointAfter, ReadsBs1770, HearsSamples}
+use Rattle.channels.specs.Heard.{freshJoint, Whole, each, cleaned, heard, sources, jointAfter, ReadsBs1770, HearsSamples}
 use Rattle.channels.specs.Deque.{Meters, newMeters, jointly, metersNext, metersReading, metersOf}
 use Rattle.channels.proofs.Weighings.{parts-length}
 use Rattle.channels.proofs.Deque.{Full, parts-full, full-join, joint-deque, joint-reading, joint-places, joint-powers}
 use Rattle.channels.proofs.Added.{weightedAt, join-at}
-use Rattle.channels.proofs.Shares.{Fine, Long, frames-sum}
+use Rattle.channels.proofs.Frames.{Long, means-loudness}
 use Rattle.channels.proofs.Behind.{behind, behind-none, behind-each, behind-length, Frames, behind-frames, none-frames, behind-sources}
 
 -- ---- a channel that has heard xs, newest first
@@ -85,17 +86,11 @@ before-at (b ∷ bs) [] xs f e = refl
 before-at (b ∷ bs) (h ∷ hs) [] f e = absurd (omega (arith, e))
 before-at (b ∷ bs) (h ∷ hs) (x ∷ xs) f e = λ i. record { weight = b; samples = channel-drop x h (f .0) i } ∷ before-at bs hs xs (f .1) (omega (arith, e)) i
 
-fine-at : (ws : List Float) (hs : List (List Float)) → Weights ws → Fine (weightedAt ws hs)
-unfolding sources
-fine-at [] hs w = tt
-fine-at (b ∷ bs) [] w = tt
-fine-at (b ∷ bs) (h ∷ hs) w = (w .0, fine-at bs hs (w .1))
-
 long-at : (k : ℕ) (ws : List Float) (hs : List (List Float)) → Frames k hs → Long k (weightedAt ws hs)
 unfolding sources
 long-at k [] hs l = tt
 long-at k (b ∷ bs) [] l = tt
-long-at k (b ∷ bs) (h ∷ hs) l = (filtered-length kHighPass (filtered kShelf h) ∙ filtered-length kShelf h ∙ l .0, long-at k bs hs (l .1))
+long-at k (b ∷ bs) (h ∷ hs) l = (weighted-length h ∙ l .0, long-at k bs hs (l .1))
 
 -- ---- the Rust's level after k frames
 
@@ -134,18 +129,17 @@ module _ (ws : List Float) (k : ℕ) (hs xs : List (List Float)) (f : Full xs) (
 
   -- ---- what is read then
 
-  mean-at : (n : ℕ) → n ≤ 300 → Weights ws → Frames k hs → dequeMean n (latest 300 (reverse (jointPowers (suc k) all))) ≡ meanJoint n all
-  unfolding dequeMean
-  mean-at n h w l =
-      ap (λ (ps : List Float). foldl _⊕_ zero64 ps ⊘ whole n) (newest-of-latest n 300 (jointPowers (suc k) all) h)
-      ∙ ap (λ (s : Float). s ⊘ whole n) (frames-sum n (suc k) all (long-at (suc k) ws (more hs xs) (behind-frames k hs xs l f)) (fine-at ws (more hs xs) w))
+  mean-at : (n : ℕ) → n ≤ 300 → Frames k hs → loudness (dequeMean n (latest 300 (reverse (jointPowers (suc k) all)))) ≡ loudness (meanJoint n all)
+  mean-at n h l =
+      ap loudness (sym (mean-deque n (latest 300 (reverse (jointPowers (suc k) all)))) ∙ ap mean (newest-of-latest n 300 (jointPowers (suc k) all) h))
+      ∙ means-loudness n (suc k) all (long-at (suc k) ws (more hs xs) (behind-frames k hs xs l f))
 
-  pub reading-at : Weights ws → Frames k hs → metersReading ws (metersAt ws k hs) xs ≡ readingAt (weightedAt ws (more hs xs))
+  pub reading-at : Frames k hs → metersReading ws (metersAt ws k hs) xs ≡ readingAt (weightedAt ws (more hs xs))
   unfolding metersReading readingAt lufsOf
-  reading-at w l =
-      let m = ap (dequeMean 40) frames-at ∙ mean-at 40 (omega arith) w l in
-      let s = ap (dequeMean 300) frames-at ∙ mean-at 300 (omega arith) w l in
-      λ i. record { power = joint-at i .power; momentary = lufsOf (m i); «short_term» = lufsOf (s i); fast = lufsOf (joint-at i .fast) }
+  reading-at l =
+      let m = ap (λ (fs : List Float). loudness (dequeMean 40 fs)) frames-at ∙ mean-at 40 (omega arith) l in
+      let s = ap (λ (fs : List Float). loudness (dequeMean 300 fs)) frames-at ∙ mean-at 300 (omega arith) l in
+      λ i. record { power = joint-at i .power; momentary = record { 0 = m i }; «short_term» = record { 0 = s i }; fast = lufsOf (joint-at i .fast) }
 
 -- ---- all frames of a list
 
@@ -243,23 +237,22 @@ module _ (ws : List Float) (fs : List (List Float)) (f : List Float) (j : JointL
   frames-after =
       subst (λ (k : ℕ). Frames k before-it) (add-zero (length fs)) (frames-from ws fs 0 none w (length-replicate (length ws) []) (none-frames (length ws)))
 
-  pub reads-from : Weights ws → length f ≡ length ws * 480 → jointFrameOf (foldl (next ws) j fs) ws f .reading ≡ bs1770 (sources ws (each (heard (length ws) fs) (cleaned (length ws) f)))
-  reads-from b e =
+  pub reads-from : length f ≡ length ws * 480 → jointFrameOf (foldl (next ws) j fs) ws f .reading ≡ bs1770 (sources ws (each (heard (length ws) fs) (cleaned (length ws) f)))
+  reads-from e =
       let n = length ws in
       let r = joints-from ws fs j w h p in
       joint-reading ws after f (r .1) (r .2) e
       ∙ ap (λ (x : Meters). metersReading ws x (parts n f)) meters-after
-      ∙ reading-at ws (length fs) before-it (parts n f) (parts-full n f e) (heard-length n fs ∙ sym (parts-length n f)) b frames-after
+      ∙ reading-at ws (length fs) before-it (parts n f) (parts-full n f e) (heard-length n fs ∙ sym (parts-length n f)) frames-after
       ∙ ap (λ (xs : List (List Float)). readingAt (weightedAt ws xs)) (behind-each none (heard n fs) (cleaned n f))
       ∙ bs1770-at ws (each (heard n fs) (cleaned n f))
 
 pub channels-bs1770 : ReadsBs1770
 unfolding jointAfter zeros
-channels-bs1770 ws fs f b w e =
+channels-bs1770 ws fs f w e =
     let size = length-replicate (length ws) resting in
     reads-from ws fs f (freshJoint (length ws)) w (omega (arith, size)) refl
     (λ i. record { channels = take-all (length ws) (replicate (length ws) resting) (omega (arith, size)) i; frames = [] })
-    b
     e
 
 -- ---- where every sample is finite, what is heard are the samples themselves

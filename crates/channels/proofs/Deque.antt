@@ -8,11 +8,10 @@ use lib.Seq.{take-at}
 use lib.Ieee.{Float}
 use Rattle.level.specs.declared.Weighing.{Weighing}
 use Rattle.level.specs.declared.Joint.{Joint}
-use Rattle.level.specs.declared.Powers.{Powers}
 use Rattle.level.specs.Weighing.{runOf}
-use Rattle.level.specs.Level.{noChannel, joinedOf, readOf, meansOf, meanOver, sumOf}
-use Rattle.level.specs.Deque.{dequeMean, answered, framesWith}
-use Rattle.level.proofs.Deque.{push-deque, push-length}
+use Rattle.level.specs.Level.{noChannel, joinedOf, readOf}
+use Rattle.level.specs.Deque.{answered, framesWith}
+use Rattle.level.proofs.Deque.{push-deque, read-deque, push-length}
 use Rattle.channels.specs.declared.Channel.{Channel}
 use Rattle.channels.specs.Channels.{JointLevel, beginOf, keptOf, parts, weighings, weighingsOf, joinAll, keptIn, finishJoint, jointFrameOf}
 use Rattle.channels.specs.Deque.{meterJoin, jointly, metersNext, metersReading, metersOf}
@@ -38,12 +37,6 @@ full-join j (b ∷ bs) (c ∷ cs) [] h = refl
 full-join j (b ∷ bs) (c ∷ cs) (x ∷ xs) h =
     full-join (joinedOf j b (runOf (beginOf c) x) 480) bs cs xs (h .1)
     ∙ ap (λ (n : ℕ). meterJoin (joinedOf j b (runOf (beginOf c) x) n) bs (weighings cs xs) xs) (sym (h .0))
-
--- what is read with one power more
-module _ (p : Powers) (l : length (p .list) ≡ 300) (j : Joint) where
-  pub read-deque : readOf j p .reading ≡ answered j (framesWith (take (p .count) (p .list)) j)
-  unfolding readOf meansOf meanOver sumOf dequeMean
-  read-deque = ap (answered j) (push-deque p l (j .power))
 
 module _ (ws : List Float) (j : JointLevel) (f : List Float) (h : length ws ≤ length (j .channels)) (l : length (j .powers .list) ≡ 300) (k : length f ≡ length ws * 480) where
   abbrev n : ℕ

@@ -1,61 +1,25 @@
--- A chain's bed on any layout: its level and the other channels are the level of all channels, frame after frame, and the table's weights make
--- nothing of silence. So it reads what BS.1770 says, and keeps what the Rust keeps.
+-- A chain's bed on any layout: its level and the other channels are the level of all channels, frame after frame. So it reads what BS.1770 says,
+-- and keeps what the Rust keeps.
 use Prim.Native.Nat.{ℕ, zero, suc, _≤_}
 use native.Mathlib.Omega.{arith}
-use mathlib.Core.Logic.{_⊎_, inl, inr}
-use mathlib.Core.Path.{_≡_, refl, ap, sym, subst, _∙_}
-use mathlib.Core.List.{List, [], _∷_, map, foldl}
-use lib.Dec.{T}
+use mathlib.Core.Path.{_≡_, refl, ap, _∙_}
+use mathlib.Core.List.{List, [], _∷_, foldl}
 use lib.ListN.{length, take, drop, getD, replicate}
-use lib.Ieee.{Float, mul, ofBits}
-use Rattle.float.specs.Arithmetic.{_⊗_, zero64, one64}
-use Rattle.float.specs.Valid.{plus}
+use lib.Ieee.{Float}
 use Rattle.level.specs.declared.Weighing.{Weighing}
 use Rattle.level.specs.declared.Level.{Level}
 use Rattle.level.specs.Level.{zeros, freshOf}
-use Rattle.layout.specs.declared.Place.{Place}
 use Rattle.layout.specs.declared.Layout.{Layout}
-use Rattle.layout.specs.Layout.{used}
-use Rattle.layout.specs.Weights.{surroundWeight, weightOf, usedWeights}
-use Rattle.layout.proofs.Placed.{weight-kinds}
+use Rattle.layout.specs.Weights.{usedWeights}
 use Rattle.layout.proofs.Used.{few-used}
 use Rattle.channels.specs.declared.Channel.{Channel}
 use Rattle.channels.specs.declared.Surround.{Surround}
 use Rattle.channels.specs.Channels.{resting, weighingsOf, keptIn, JointLevel, finishJoint, jointFrameOf}
 use Rattle.channels.specs.Surround.{restingOthers, restingOf, ownOf, jointOf, bedFrameOf}
 use Rattle.channels.specs.Deque.{metersOf}
-use Rattle.channels.specs.Heard.{Weights, Bed, bedNext, bedAfter, ReadsLayout, KeepsLayout}
+use Rattle.channels.specs.Heard.{Bed, bedNext, bedAfter, ReadsLayout, KeepsLayout}
 use Rattle.channels.proofs.Deque.{keeps-deque}
 use Rattle.channels.proofs.Bs1770.{reads-from}
-
--- ---- the table's weights
-
-abbrev Fine : Float → Type 0
-Fine b = T (plus b) × (b ⊗ zero64 ≡ zero64)
-
-zero-fine : Fine zero64
-unfolding ofBits mul
-zero-fine = (tt, refl)
-
-one-fine : Fine one64
-unfolding ofBits mul
-one-fine = (tt, refl)
-
-surround-fine : Fine surroundWeight
-unfolding ofBits mul
-surround-fine = (tt, refl)
-
-weight-fine : (p : Place) → Fine (weightOf p)
-weight-fine p = go (weight-kinds p)
-  where
-    go : (weightOf p ≡ zero64) ⊎ ((weightOf p ≡ one64) ⊎ (weightOf p ≡ surroundWeight)) → Fine (weightOf p)
-    go (inl e) = subst Fine (sym e) zero-fine
-    go (inr (inl e)) = subst Fine (sym e) one-fine
-    go (inr (inr e)) = subst Fine (sym e) surround-fine
-
-weights-fine : (ps : List Place) → Weights (map weightOf ps)
-weights-fine [] = tt
-weights-fine (p ∷ ps) = (weight-fine p, weights-fine ps)
 
 -- ---- a frame of the bed is one of all channels
 
@@ -100,7 +64,6 @@ layout-bs1770 l fs f w e =
     (λ i. jointFrameOf (r .0 i) (usedWeights (r .1 i)) f .reading)
     ∙ reads-from (usedWeights l) fs f (jointOf freshOf (restingOf l)) w (few-used l) refl
     (λ i. record { channels = take-replicate resting n 8 (few-used l) i; frames = [] })
-    (weights-fine (used l))
     e
 
 pub layout-deque : KeepsLayout

@@ -7,7 +7,7 @@ pub mod Alone
 pub mod Bed
 pub mod Added
 pub mod Deque
-pub mod Shares
+pub mod Frames
 pub mod Behind
 pub mod Bs1770
 pub mod Layouts

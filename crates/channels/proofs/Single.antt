@@ -1,7 +1,7 @@
 -- One channel of weight 1 is one channel: what BS.1770 says of several is then what it says of one.
-use Prim.Native.Nat.{ℕ, zero, suc}
+use Prim.Native.Nat.{ℕ, zero, suc, min}
 use mathlib.Core.Path.{_≡_, refl, ap, _∙_}
-use mathlib.Core.List.{List, [], _∷_, foldl, reverse}
+use mathlib.Core.List.{List, [], _∷_, reverse}
 use lib.ListN.{take, drop}
 use lib.Ieee.{Float, binary64, ofBits}
 use Rattle.float.specs.Arithmetic.{_⊕_, _⊘_, zero64, one64, whole}
@@ -34,7 +34,7 @@ one-powers zero ys = refl
 one-powers (suc n) ys = λ i. one-power ys i ∷ one-powers n (drop 480 ys) i
 
 one-mean : (n : ℕ) (ys : List Float) → meanJoint n (alone ys) ≡ level.meanPower n ys
-one-mean n ys = ap (λ (ps : List Float). foldl _⊕_ zero64 ps ⊘ whole n) (one-powers n ys)
+one-mean n ys = ap level.mean (one-powers (min n (level.framesIn ys)) ys)
 
 pub one-source : OneSource
 unfolding power momentary shortTerm fast level.momentary level.shortTerm level.fast

@@ -5,9 +5,8 @@ use mathlib.Core.List.{List, [], _∷_, _++_, map, foldl}
 use lib.Dec.{T}
 use lib.ListN.{length, replicate}
 use lib.Ieee.{Float}
-use Rattle.float.specs.Arithmetic.{_⊗_, zero64, one64}
+use Rattle.float.specs.Arithmetic.{one64}
 use Rattle.float.specs.AllFinite.{allFinite}
-use Rattle.float.specs.Valid.{plus}
 use Rattle.level.specs.declared.Level.{Level}
 use Rattle.level.specs.Bs1770.{frameLength, shortTermFrames}
 use Rattle.level.specs.Weighing.{cleanOf}
@@ -52,11 +51,6 @@ sources (b ∷ bs) (x ∷ xs) = record { weight = b; samples = x } ∷ sources b
 
 -- ---- what is to be read
 
--- no minus sign, and nothing is made of silence: 0, 1 and 1.41 are such weights
-abbrev pub Weights : List Float → Type 0
-Weights [] = Unit {0}
-Weights (b ∷ bs) = (T (plus b) × (b ⊗ zero64 ≡ zero64)) × Weights bs
-
 -- the level of n channels that has heard nothing, and that after the frames
 abbrev pub freshJoint : ℕ → JointLevel
 freshJoint n = record { channels = replicate n resting; powers = noPowers }
@@ -64,10 +58,10 @@ freshJoint n = record { channels = replicate n resting; powers = noPowers }
 unfoldable pub jointAfter : List Float → List (List Float) → JointLevel
 jointAfter weights fs = foldl (λ (j : JointLevel) (f : List Float). jointFrameOf j weights f .level) (freshJoint (length weights)) fs
 
--- THE PROMISE: after any frames of any number of channels, one frame more reads what BS.1770 says of all samples that the channels heard
+-- THE PROMISE: after any frames of any number of channels, with any weights, one frame more reads what BS.1770 says of all samples that the channels heard
 abbrev pub ReadsBs1770 : Type 0
 ReadsBs1770 =
-    (ws : List Float) (fs : List (List Float)) (f : List Float) → Weights ws → Whole (length ws) fs → length f ≡ length ws * frameLength
+    (ws : List Float) (fs : List (List Float)) (f : List Float) → Whole (length ws) fs → length f ≡ length ws * frameLength
     → jointFrameOf (jointAfter ws fs) ws f .reading ≡ bs1770 (sources ws (each (heard (length ws) fs) (cleaned (length ws) f)))
 
 -- where every sample is finite, what is heard are the samples themselves
@@ -107,7 +101,7 @@ bedAfter l fs = foldl bedNext (record { level = freshOf; surround = restingOf l 
 abbrev pub bedHeard : Layout → List (List Float) → List Float → List Source
 bedHeard l fs f = sources (usedWeights l) (each (heard (channelsOf l) fs) (cleaned (channelsOf l) f))
 
--- THE PROMISE, on any layout, with no hypothesis on its weights
+-- THE PROMISE, on any layout
 abbrev pub ReadsLayout : Type 0
 ReadsLayout =
     (l : Layout) (fs : List (List Float)) (f : List Float) → Whole (channelsOf l) fs → length f ≡ channelsOf l * frameLength

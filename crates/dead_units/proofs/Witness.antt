@@ -15,7 +15,7 @@ use Rattle.power.specs.Roots.{roots}
 use Rattle.power.specs.Power.{exp10Of, exp60Of, expOf, exp2Of, powAt, powUnits, raise, floorOf, floorUnits}
 use Rattle.sequence.specs.History.{latest, newest, countAfter, placesAfter}
 use Rattle.biquad.specs.Tick.{tickOf}
-use Rattle.level.specs.Bs1770.{loudness}
+use Rattle.level.specs.Bs1770.{mean, loudness}
 use Rattle.float.specs.Arithmetic.{zero64, one64}
 use Rattle.float.specs.AllFinite.{allFinite}
 use Rattle.level.specs.Weighing as weighing
@@ -99,7 +99,7 @@ pub computed : Computed
 unfolding
     lateOf strand.finishOf decision.heardOf decision.smoothedOf decision.offOf decision.onsetOf decision.offsetOf decision.switchOf decision.meanOf decision.voicedOf decision.decideOf decision.fullOf
     state.tenthsOf state.hundredthsOf state.roundedOf state.speechLevelOf state.stateOf state.powerNumber state.levelNumber
-    level.finishOf level.readOf level.joinedOf level.pushOf level.meansOf level.sumOf level.meanOver level.lufsOf level.zeros level.startOf weighing.runOf weighing.stepOf loudness newest
+    level.finishOf level.readOf level.joinedOf level.pushOf level.meansOf mean level.lufsOf level.zeros level.startOf weighing.runOf weighing.stepOf loudness newest
     detector.finishOf detector.powersOf filters.noDecimated floor.noMinima modulation.noHistory detector.shownOf detector.probabilityOf
     filters.runOf filters.stepOf filters.outputsOf filters.keptOf filters.keepOf filters.eighths tickOf
     floor.floorOf floor.smoothedOf floor.windowMinOf floor.storedOf floor.leastOf floor.lowestOf floor.minimaOf

@@ -12,13 +12,14 @@ use lib.Ieee.Scale.{finite, round-same}
 none : (a : ℕ) → a - a ≡ 0
 none a = omega arith
 
-zero-round : (f : Format) (c : ℕ) → 0 < c → round f false 0 c ≡ round f false 0 1
-zero-round f c p = round-same f false 0 c 0 1 p (omega arith) (sym (zero-mul c))
+-- 0 by any number is 0
+pub zero-round : (f : Format) (s : Bool) (c : ℕ) → 0 < c → round f s 0 c ≡ round f s 0 1
+zero-round f s c p = round-same f s 0 c 0 1 p (omega arith) (sym (zero-mul c))
 
 less-itself : (f : Format) (s : Bool) (a c : ℕ) → 0 < c → sum f s a (not s) a c ≡ round f false 0 1
 unfolding sum
-less-itself f true a c p = simp (le-ltb a a (le-refl a), none a) (zero-round f c p)
-less-itself f false a c p = simp (le-ltb a a (le-refl a), none a) (zero-round f c p)
+less-itself f true a c p = simp (le-ltb a a (le-refl a), none a) (zero-round f false c p)
+less-itself f false a c p = simp (le-ltb a a (le-refl a), none a) (zero-round f false c p)
 
 zero-eq : (f : Format) → eq (round f false 0 1) (ofBits f 0) ≡ true
 unfolding round eq ofBits

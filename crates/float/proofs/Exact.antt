@@ -1,4 +1,4 @@
--- A value that the format holds is rounded to itself: so 1 x and x + 0 are x.
+-- A value that the format holds is rounded to itself: so 1 x, x / 1 and x + 0 are x.
 use Prim.Native.Nat.{ℕ, zero, suc, _+_, _-_, _*_, _/_, _%_, _^_, _≤_, _<_}
 use native.Mathlib.Nat.{mul-one, one-mul, zero-mul, add-zero, zero-add, mul-assoc, mul-comm, mul-right-comm, mul-lt-mul-of-pos-right, lt-of-lt-of-le, le-of-eq, not-le-of-lt, lt-of-not-le, lt-of-mul-lt-mul-right, le-of-suc-le-suc}
 use mathlib.Core.Path.{_≡_, refl, sym, ap, _∙_, subst}
@@ -6,7 +6,7 @@ use mathlib.Core.Bool.{Bool, true, false, _&&_, cond}
 use lib.IntN.{ℤ, pos, negsuc}
 use lib.Dec.{T, leb, ltb, eqb, ltb→lt, leb→le}
 use lib.Pow.{pow-add, pow-pos, pow-lt}
-use lib.Ieee.{Float, nan, inf, fin, Format, prec, emax, low, hid, top, up, down, size, fits, round, sum, add, mul, toBits, ofBits}
+use lib.Ieee.{Float, nan, inf, fin, Format, prec, emax, low, hid, top, up, down, size, fits, round, sum, add, mul, div, toBits, ofBits}
 use lib.Ieee.Fits.{down-pos, round-fits}
 use lib.Ieee.Digits.{back}
 use lib.Ieee.Bits.{ofBits-toBits}
@@ -94,7 +94,7 @@ pub round-back : (f : Format) (s : Bool) (m : ℕ) (e : ℤ) → T (fits f (fin 
 round-back f s m e t =
     unique f (round f s (m * up e) (down e)) (fin s m e) s (m * up e) (down e) (down-pos e) (round-fits f s (m * up e) (down e)) t (round-value f s m e t) (refl, refl)
 
--- ---- 1 x, 0 + x and x + 0
+-- ---- 1 x, x / 1, 0 + x and x + 0
 
 abbrev pub one : Float
 one = fin false 1 (pos 0)
@@ -109,6 +109,14 @@ one-times f (inf true) t = refl
 one-times f (inf false) t = refl
 one-times f (fin true m e) t = ap (λ (z : ℕ). round f true z (1 * down e)) (one-mul (m * up e)) ∙ ap (round f true (m * up e)) (one-mul (down e)) ∙ round-back f true m e t
 one-times f (fin false m e) t = ap (λ (z : ℕ). round f false z (1 * down e)) (one-mul (m * up e)) ∙ ap (round f false (m * up e)) (one-mul (down e)) ∙ round-back f false m e t
+
+pub by-one : (f : Format) (x : Float) → T (fits f x) → div f x one ≡ x
+unfolding div
+by-one f nan t = refl
+by-one f (inf true) t = refl
+by-one f (inf false) t = refl
+by-one f (fin true m e) t = simp (mul-one, one-mul) (round-back f true m e t)
+by-one f (fin false m e) t = simp (mul-one, one-mul) (round-back f false m e t)
 
 pub nil-and : (f : Format) (x : Float) → NoMinus f x → add f nil x ≡ x
 unfolding add sum

@@ -1,32 +1,34 @@
 -- After any frames the level reads what BS.1770 says of all that was heard: its state is a function of that, and one frame more keeps it so.
-use Prim.Native.Nat.{ℕ, suc, _+_, _*_, _≤_}
+use Prim.Native.Nat.{ℕ, suc, _+_, _*_, _≤_, _<_, min}
 use native.Mathlib.Nat.{add-suc, suc-add, add-zero, zero-add}
 use native.Mathlib.Omega.{arith}
 use mathlib.Core.Path.{_≡_, refl, ap, sym, _∙_}
 use mathlib.Core.List.{List, [], _∷_, _++_, map, foldl, reverse, reverseAux, reverseAux-append, reverse-cons}
 use lib.ListN.{length, take, drop, length-append, length-map, length-reverse, length-reverseAux}
 use lib.Dec.{T}
-use lib.Ieee.{Float}
+use lib.Ieee.{Float, binary64, ofBits, ofInt, round}
 use lib.Ieee.Fits.{and-l, and-r}
 use lib.Ieee.Scale.{finite}
+use Rattle.float.proofs.Exact.{nil-and, by-one}
 use Rattle.biquad.specs.Sections.{kShelf, kHighPass}
 use Rattle.sequence.specs.History.{latest, pushed}
 use Rattle.sequence.proofs.Latest.{pushed-latest}
 use Rattle.sequence.proofs.Newest.{newest-of-latest}
+use Rattle.sequence.proofs.Series.{series-take}
 use Rattle.level.specs.declared.Weighing.{Weighing}
 use Rattle.level.specs.declared.Reading.{Reading}
 use Rattle.level.specs.declared.Level.{Level}
-use Rattle.level.specs.Bs1770.{filtered, weighted, energy, power, powers, meanPower, smoothed, momentary, shortTerm, fast}
-use Rattle.float.specs.Arithmetic.{_⊕_, _⊘_, zero64, whole}
+use Rattle.level.specs.Bs1770.{filtered, weighted, energy, power, powers, framesIn, mean, meanPower, smoothed, loudness, momentary, shortTerm, fast}
+use Rattle.float.specs.Arithmetic.{_⊘_, zero64, whole}
 use Rattle.float.specs.AllFinite.{allFinite}
 use Rattle.level.specs.Weighing.{cleanOf, runOf}
 use Rattle.level.specs.Level.{zeros, lufsOf, freshOf, frameOf}
 use Rattle.level.specs.Deque.{Meter, newMeter, meterRun, dequeMean, joint, kept, framesWith, meterNext, meterReading, meterOf}
-use Rattle.level.specs.Heard.{Whole, heard, joined, levelAfter, bs1770, ReadsBs1770, HearsSamples}
-use Rattle.level.proofs.Deque.{level-deque, level-deque-reading, level-places}
+use Rattle.level.specs.Heard.{Whole, heard, joined, levelAfter, bs1770, ReadsBs1770, EarlyFrames, FirstFrame, HearsSamples}
+use Rattle.level.proofs.Deque.{mean-deque, level-deque, level-deque-reading, level-places}
 use Rattle.level.proofs.Finite.{clean-one}
-use Rattle.level.proofs.Filter.{stateAt, shelf-rest, high-pass-rest, filtered-length, weighingAt, run-at, weighted-drop}
-use Rattle.level.proofs.Squares.{joined-power, joined-fast, frames-sum}
+use Rattle.level.proofs.Filter.{stateAt, shelf-rest, high-pass-rest, weighted-length, weighingAt, run-at, weighted-drop}
+use Rattle.level.proofs.Squares.{mean-sum, joined-power, joined-fast}
 
 -- ---- the Rust's level after k frames whose samples are xs, newest first
 
@@ -46,6 +48,11 @@ readingAt ys = record {
   «short_term» = lufsOf (meanPower 300 ys);
   fast = lufsOf (smoothed ys);
 }
+
+-- the latest n of k frames
+frames-taken : (n k : ℕ) (ys : List Float) → take n (powers k ys) ≡ powers (min n k) ys
+unfolding powers
+frames-taken = series-take power (drop 480) powers (λ ys. refl) (λ n ys. refl)
 
 -- the port's next level
 abbrev next : Level → List Float → Level
@@ -98,17 +105,16 @@ module _ (k : ℕ) (f xs : List Float) (e : length f ≡ 480) where
 
   all-length : length xs ≡ k * 480 → length (weighted all) ≡ suc k * 480
   unfolding all
-  all-length l =
-      filtered-length kHighPass (filtered kShelf all)
-      ∙ filtered-length kShelf all
-      ∙ length-reverseAux (map cleanOf f) xs
-      ∙ omega (arith, size, l)
+  all-length l = weighted-length all ∙ length-reverseAux (map cleanOf f) xs ∙ omega (arith, size, l)
+
+  frames-in : length xs ≡ k * 480 → suc k ≡ framesIn (weighted all)
+  frames-in l = omega (arith, all-length l)
 
   mean-at : (n : ℕ) → n ≤ 300 → length xs ≡ k * 480 → dequeMean n (latest 300 (reverse (powers (suc k) (weighted all)))) ≡ meanPower n (weighted all)
-  unfolding dequeMean
   mean-at n h l =
-      ap (λ (ps : List Float). foldl _⊕_ zero64 ps ⊘ whole n) (newest-of-latest n 300 (powers (suc k) (weighted all)) h)
-      ∙ ap (λ (s : Float). s ⊘ whole n) (frames-sum n (suc k) (weighted all) (all-length l))
+      sym (mean-deque n (latest 300 (reverse (powers (suc k) (weighted all)))))
+      ∙ ap mean (newest-of-latest n 300 (powers (suc k) (weighted all)) h ∙ frames-taken n (suc k) (weighted all))
+      ∙ ap (λ (m : ℕ). mean (powers (min n m) (weighted all))) (frames-in l)
 
   pub reading-at : length xs ≡ k * 480 → meterReading (meterAt k xs) f ≡ readingAt (weighted (reverseAux (map cleanOf f) xs))
   unfolding meterReading readingAt all lufsOf
@@ -173,6 +179,42 @@ level-bs1770 fs f w e =
     ∙ reading-at (length fs) f (reverse (heard fs)) e (length-reverse (heard fs) ∙ heard-length fs w)
     ∙ ap (λ (ys : List Float). readingAt (weighted ys)) (sym (reverseAux-append (heard fs) (map cleanOf f) []))
     ∙ bs1770-at (heard fs ++ map cleanOf f)
+
+-- ---- up to 40 frames both means are of all of them, and the mean of one frame is its power
+
+early-means : (ys : List Float) → framesIn ys ≤ 40 → meanPower 40 ys ≡ meanPower 300 ys
+early-means ys h =
+    let all : min 40 (framesIn ys) ≡ min 300 (framesIn ys) = omega arith in
+    ap (λ (m : ℕ). mean (powers m ys)) all
+
+pub early-frames : EarlyFrames
+unfolding momentary shortTerm
+early-frames fs f w e h =
+    let xs = heard fs ++ map cleanOf f in
+    let n = weighted-length (reverse xs) ∙ length-reverse xs ∙ length-append (heard fs) (map cleanOf f) in
+    let r = level-bs1770 fs f w e in
+    ap (λ (x : Reading). x .momentary) r
+    ∙ ap (λ (p : Float). record { 0 = loudness p }) (early-means (weighted (reverse xs)) (omega (arith, n, heard-length fs w, length-map f cleanOf, e, h)))
+    ∙ ap (λ (x : Reading). x .«short_term») (sym r)
+
+one-frame : (n : ℕ) (ys : List Float) → 0 < n → length ys ≡ 480 → meanPower n ys ≡ power ys
+unfolding powers mean ofBits ofInt round
+one-frame n ys p e =
+    let one : min n (framesIn ys) ≡ 1 = omega (arith, e) in
+    ap (λ (m : ℕ). mean (powers m ys)) one
+    ∙ ap (λ (x : Float). x ⊘ whole 1) (nil-and binary64 (power ys) (mean-sum (take 480 ys)))
+    ∙ by-one binary64 (power ys) (mean-sum (take 480 ys) .1)
+
+pub first-frame : FirstFrame
+unfolding levelAfter heard lufsOf momentary shortTerm
+first-frame f e =
+    let ys = weighted (reverse (map cleanOf f)) in
+    let size = weighted-length (reverse (map cleanOf f)) ∙ length-reverse (map cleanOf f) ∙ length-map f cleanOf ∙ e in
+    let r = level-bs1770 [] f tt e in
+    let own = ap (λ (x : Reading). lufsOf (x .power)) (sym r) in (
+      ap (λ (x : Reading). x .momentary) r ∙ ap lufsOf (one-frame 40 ys (omega arith) size) ∙ own,
+      ap (λ (x : Reading). x .«short_term») r ∙ ap lufsOf (one-frame 300 ys (omega arith) size) ∙ own,
+    )
 
 -- ---- where every sample is finite, what is heard are the samples themselves
 

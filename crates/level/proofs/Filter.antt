@@ -38,10 +38,13 @@ pub high-pass-rest : atRest ≡ stateAt kHighPass []
 unfolding stateAt filtered add sub mul ofBits
 high-pass-rest = refl
 
-pub filtered-length : (c : Coefficients) (xs : List Float) → length (filtered c xs) ≡ length xs
+filtered-length : (c : Coefficients) (xs : List Float) → length (filtered c xs) ≡ length xs
 unfolding filtered
 filtered-length c [] = refl
 filtered-length c (x ∷ xs) = ap suc (filtered-length c xs)
+
+pub weighted-length : (xs : List Float) → length (weighted xs) ≡ length xs
+weighted-length xs = filtered-length kHighPass (filtered kShelf xs) ∙ filtered-length kShelf xs
 
 -- the difference equation, k samples back: the outputs meet it, and no others do
 abbrev pub Meets : Coefficients → List Float → List Float → ℕ → Type 0

@@ -1,10 +1,10 @@
 -- Loudness by Recommendation ITU-R BS.1770-4, of one channel with weight 1: what a level is to read after the samples xs.
--- It has no state: each reading is a function of all samples since the strand was fresh (f64, 48 kHz, oldest first), and silence came before them.
+-- It has no state: each reading is a function of all samples since the strand was fresh and its filters at rest (f64, 48 kHz, oldest first).
 -- Each operation is rounded to f64, in the order written. Inside, lists run newest first, so that the sample k back is at place k.
-use Prim.Native.Nat.{ℕ, zero, suc}
+use Prim.Native.Nat.{ℕ, zero, suc, _/_, min}
 use mathlib.Core.Bool.{cond}
 use mathlib.Core.List.{List, [], _∷_, foldl, reverse}
-use lib.ListN.{getD, take, drop}
+use lib.ListN.{length, getD, take, drop}
 use lib.Ieee.{Float, binary64, lt, ofBits}
 use Rattle.biquad.specs.declared.Coefficients.{Coefficients}
 use Rattle.biquad.specs.Sections.{kShelf, kHighPass}
@@ -52,14 +52,22 @@ energy (y ∷ ys) = energy ys ⊕ y ⊗ y
 abbrev pub power : List Float → Float
 power ys = energy (take frameLength ys) ⊘ whole frameLength
 
--- of the latest n frames, newest first; frames before the first sample are silent
+-- of the latest n frames, newest first
 unfoldable pub powers : ℕ → List Float → List Float
 powers zero ys = []
 powers (suc n) ys = power ys ∷ powers n (drop frameLength ys)
 
--- the mean over n frames
+-- the frames that there are
+abbrev pub framesIn : List Float → ℕ
+framesIn ys = length ys / frameLength
+
+-- the mean of frames with these powers, added in this order: the divisor is the number of frames
+unfoldable pub mean : List Float → Float
+mean ps = foldl _⊕_ zero64 ps ⊘ whole (length ps)
+
+-- that of the latest n frames, or of all where there are fewer
 abbrev pub meanPower : ℕ → List Float → Float
-meanPower n ys = foldl _⊕_ zero64 (powers n ys) ⊘ whole n
+meanPower n ys = mean (powers (min n (framesIn ys)) ys)
 
 -- ---- loudness, LUFS: -0.691 + 10 log10 of the mean square; not below -100, which is also that of silence
 
@@ -70,7 +78,7 @@ offsetLufs = ofBits binary64 0xbfe61cac083126e9
 unfoldable pub loudness : Float → Float
 loudness p = cond (lt zero64 p) (maxOf (offsetLufs ⊕ ten64 ⊗ log10Of p) silenceLufs) silenceLufs
 
--- over the last 400 ms, and over the last 3 s
+-- over the last 400 ms, and over the last 3 s, or since the first sample
 unfoldable pub momentary : List Float → Float
 momentary xs = loudness (meanPower momentaryFrames (weighted (reverse xs)))
 

@@ -1,5 +1,5 @@
 -- The Rust's `Level::frame`, of one channel with weight 1: its deque of powers is a list, oldest first.
-use Prim.Native.Nat.{ℕ}
+use Prim.Native.Nat.{ℕ, min}
 use mathlib.Core.List.{List, [], foldl}
 use lib.ListN.{length}
 use lib.Ieee.{Float}
@@ -29,9 +29,9 @@ newMeter = record { shelf = atRest; «high_pass» = atRest; fast = zero64; frame
 abbrev pub meterRun : Meter → List Float → Weighing
 meterRun m xs = runOf (record { shelf = m .shelf; «high_pass» = m .«high_pass»; fast = m .fast; energy = zero64 }) xs
 
--- `frames.iter().rev().take(n).sum() / n`
+-- `frames.iter().rev().take(n).sum() / frames.len().min(n)`
 unfoldable pub dequeMean : ℕ → List Float → Float
-dequeMean n frames = foldl _⊕_ zero64 (newest n frames) ⊘ whole n
+dequeMean n frames = foldl _⊕_ zero64 (newest n frames) ⊘ whole (min (length frames) n)
 
 -- what is kept
 abbrev pub kept : Weighing → List Float → Meter

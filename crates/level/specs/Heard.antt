@@ -1,4 +1,5 @@
 -- What a level has heard after a list of frames, and what it is to read then. The frames and their samples run oldest first.
+use Prim.Native.Nat.{_<_}
 use mathlib.Core.Path.{_≡_}
 use mathlib.Core.List.{List, [], _∷_, _++_, map, foldl, reverse}
 use lib.Dec.{T}
@@ -6,10 +7,10 @@ use lib.ListN.{length}
 use lib.Ieee.{Float}
 use Rattle.level.specs.declared.Reading.{Reading}
 use Rattle.level.specs.declared.Level.{Level}
-use Rattle.level.specs.Bs1770.{frameLength, weighted, power, momentary, shortTerm, fast}
+use Rattle.level.specs.Bs1770.{frameLength, momentaryFrames, weighted, power, momentary, shortTerm, fast}
 use Rattle.float.specs.AllFinite.{allFinite}
 use Rattle.level.specs.Weighing.{cleanOf}
-use Rattle.level.specs.Level.{freshOf, frameOf}
+use Rattle.level.specs.Level.{lufsOf, freshOf, frameOf}
 
 -- each frame has its 480 samples
 abbrev pub Whole : List (List Float) → Type 0
@@ -50,3 +51,16 @@ ReadsBs1770 = (fs : List (List Float)) (f : List Float) → Whole fs → length 
 -- and where every sample is finite, what is heard are the samples themselves
 abbrev pub HearsSamples : Type 0
 HearsSamples = (fs : List (List Float)) → FiniteFrames fs → heard fs ≡ joined fs
+
+-- momentary and short-term are the same while 3 s and 400 ms have the same frames, up to the 40th since the strand was fresh
+abbrev pub EarlyFrames : Type 0
+EarlyFrames =
+    (fs : List (List Float)) (f : List Float) → Whole fs → length f ≡ frameLength → length fs < momentaryFrames
+    → frameOf (levelAfter fs) f .reading .momentary ≡ frameOf (levelAfter fs) f .reading .«short_term»
+
+-- and the first one reads its own power
+abbrev pub FirstFrame : Type 0
+FirstFrame =
+    (f : List Float) → length f ≡ frameLength
+    → (frameOf freshOf f .reading .momentary ≡ lufsOf (frameOf freshOf f .reading .power))
+    × (frameOf freshOf f .reading .«short_term» ≡ lufsOf (frameOf freshOf f .reading .power))

@@ -16,7 +16,7 @@ use Rattle.level.specs.declared.Reading.{Reading}
 use Rattle.level.specs.declared.Read.{Read}
 use Rattle.level.specs.declared.Level.{Level}
 use Rattle.level.specs.declared.Framed.{Framed}
-use Rattle.level.specs.Bs1770.{momentaryFrames, shortTermFrames, loudness}
+use Rattle.level.specs.Bs1770.{momentaryFrames, shortTermFrames, mean, loudness}
 use Rattle.float.specs.Arithmetic.{_⊕_, _⊗_, _⊘_, zero64, one64, whole}
 use Rattle.float.specs.AllFinite.{allFinite}
 use Rattle.level.specs.Weighing.{runOf}
@@ -45,12 +45,9 @@ pushOf p x = record { count = countAfter shortTermFrames (p .count) 1; list = pl
 unfoldable pub sumOf : Float → ℕ → ℕ → List Float → Float
 sumOf sum n count places = foldl _⊕_ sum (newest n (held count places))
 
--- the divisor is n also where fewer frames are held: the missing ones count as silence
-unfoldable pub meanOver : Float → ℕ → Float
-meanOver sum n = sum ⊘ whole n
-
+-- the mean of the newest n frames, or of all that are held where there are fewer
 abbrev pub meanOf : ℕ → Powers → Float
-meanOf n p = meanOver (sumOf zero64 n (p .count) (p .list)) n
+meanOf n p = mean (newest n (held (p .count) (p .list)))
 
 unfoldable pub meansOf : Powers → Means
 meansOf p = record { momentary = meanOf momentaryFrames p; «short_term» = meanOf shortTermFrames p }

@@ -1,8 +1,10 @@
 // A strand's loudness by BS.1770, for each frame of 10 ms: momentary (400 ms), short-term (3 s) and fast (50 ms).
-// Before 400 ms or 3 s of frames the missing ones count as silence.
+// Before 400 ms or 3 s of frames the means are those of the frames that there are.
+ghost use Prim.Native.Nat.{_<_};
 ghost use mathlib.Core.Path.{_≡_};
 ghost use mathlib.Core.List.{foldl};
 ghost use lib.Dec.{T};
+ghost use Rattle.float.specs.Arithmetic.{_⊘_, whole};
 ghost use Rattle.biquad.specs.Tick.{tickOf};
 ghost use Rattle.level.specs.Rest.{sameState, holdsOf, restsOf, shelfOutput, heldStep, heldRun, stillStep};
 ghost use Rattle.level.specs.Weighing.{cleanOf, stepOf, runOf};
@@ -12,7 +14,6 @@ ghost use Rattle.level.specs.Level.{
   noPowers,
   pushOf,
   sumOf,
-  meanOver,
   meansOf,
   lufsOf,
   readOf,
@@ -66,7 +67,7 @@ pub struct Powers {
     pub list: [f64; 300],
 }
 
-// The mean powers of 400 ms and of 3 s.
+// The mean powers of 400 ms and of 3 s, or of all frames where there are fewer.
 pub struct Means {
     pub momentary: f64,
     pub short_term: f64,
@@ -262,22 +263,19 @@ pub fn sum_newest(from: f64, v: &[f64], count: usize, n: usize) -> f64
     ensures { λ r. ⌜ r ≡ sumOf from n count (now (v .entry)) ⌝ }
 {
     let mut c = sequence::least(count, v.len());
-    let mut k = n;
+    let oldest = c - sequence::least(c, n);
     let mut sum = from;
-    while 0 < c {
-        if k == 0 {
-            return sum;
-        }
+    while oldest < c {
         c -= 1;
-        k -= 1;
         sum = sum + v[c];
     }
     sum
 }
 
-// The mean of n frames whose powers come to sum, also where there are fewer.
-pub fn mean(sum: f64, n: usize) -> f64
-    ensures { λ r. ⌜ r ≡ meanOver sum n ⌝ }
+// The mean of n frames whose powers come to sum; there is at least one.
+fn mean(sum: f64, n: usize) -> f64
+    requires { ⌜ 0 < n ⌝ }
+    ensures { λ r. ⌜ r ≡ sum ⊘ whole n ⌝ }
 {
     sum / std::num::nearest_u64_to_f64(n as u64)
 }
@@ -310,18 +308,20 @@ impl Powers {
         Powers { count, list }
     }
 
-    // The mean powers of 40 and of 300 frames. The sum over 40, newest first, is the beginning of that over 300.
-    pub fn means(self) -> Means
+    // The mean powers of the newest 40 and 300 frames, or of all that are held; there is at least one. The sum over 40, newest first, is the
+    // beginning of that over 300.
+    fn means(self) -> Means
+        requires { ⌜ 0 < self .count ⌝ }
         ensures { λ r. ⌜ r ≡ meansOf self ⌝ }
     {
         let list = self.list;
-        let count = sequence::least(self.count, SHORT_TERM);
-        let recent = sum_newest(0.0, &list, count, MOMENTARY);
-        let older = count - sequence::least(count, MOMENTARY);
-        let all = sum_newest(recent, &list, older, SHORT_TERM - MOMENTARY);
+        let held = sequence::least(self.count, SHORT_TERM);
+        let recent = sequence::least(held, MOMENTARY);
+        let momentary = sum_newest(0.0, &list, held, MOMENTARY);
+        let short_term = sum_newest(momentary, &list, held - recent, SHORT_TERM - MOMENTARY);
         Means {
-            momentary: mean(recent, MOMENTARY),
-            short_term: mean(all, SHORT_TERM),
+            momentary: mean(momentary, recent),
+            short_term: mean(short_term, held),
         }
     }
 }

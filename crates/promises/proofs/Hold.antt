@@ -9,7 +9,7 @@ use Rattle.power.proofs.Values.{exp2-laws}
 use Rattle.power.proofs.Scaled.{exp-laws, exp10-laws, exp60-laws}
 use Rattle.power.proofs.Examples.{power-examples}
 use Rattle.root.proofs.Nearest.{sqrt-nearest, nearest-is}
-use Rattle.level.proofs.Bs1770.{level-bs1770, level-samples}
+use Rattle.level.proofs.Bs1770.{level-bs1770, level-samples, early-frames, first-frame}
 use Rattle.level.proofs.Deque.{level-deque, level-deque-reading}
 use Rattle.level.proofs.Valid.{fresh-valid, frame-valid}
 use Rattle.detector.proofs.Examples.{smoothstep-examples}
@@ -44,7 +44,17 @@ pub examples : Examples
 examples = record { logarithm = log-examples; power = power-examples; smoothstep = smoothstep-examples; ratio = ratio-examples; hold = hold-examples }
 
 pub loudness : Loudness
-loudness = record { bs1770 = level-bs1770; samples = level-samples; deque = level-deque; deque-reading = level-deque-reading; fresh = fresh-valid; kept = frame-valid; fast-coefficient = fast-coeff }
+loudness = record {
+  bs1770 = level-bs1770;
+  samples = level-samples;
+  early = early-frames;
+  first = first-frame;
+  deque = level-deque;
+  deque-reading = level-deque-reading;
+  fresh = fresh-valid;
+  kept = frame-valid;
+  fast-coefficient = fast-coeff;
+}
 
 pub ducker : DuckerLaws
 ducker = ducker-laws

@@ -11,7 +11,7 @@ use Rattle.level.specs.Bs1770.{fastCoeff}
 use Rattle.float.specs.Arithmetic.{_⊘_, whole}
 use Rattle.level.specs.Level.{freshOf, frameOf}
 use Rattle.level.specs.Deque.{meterOf, meterNext, meterReading}
-use Rattle.level.specs.Heard.{ReadsBs1770, HearsSamples}
+use Rattle.level.specs.Heard.{ReadsBs1770, EarlyFrames, FirstFrame, HearsSamples}
 use Rattle.level.specs.Valid.{Valid}
 
 pub record Loudness : Type 0 where
@@ -19,6 +19,9 @@ pub record Loudness : Type 0 where
   pub bs1770 : ReadsBs1770
   -- and where every sample is finite, what is heard are the samples themselves
   pub samples : HearsSamples
+  -- the means are over the frames that there are: up to the 40th momentary and short-term are the same, and the first frame reads its own power
+  pub early : EarlyFrames
+  pub first : FirstFrame
   -- the record of a count and 300 places stands for the Rust's deque, in what is kept and in what is read
   pub deque : (l : Level) (xs : List Float) → length (l .powers .list) ≡ 300 → meterOf (frameOf l xs .level) ≡ meterNext (meterOf l) xs
   pub deque-reading : (l : Level) (xs : List Float) → length (l .powers .list) ≡ 300 → frameOf l xs .reading ≡ meterReading (meterOf l) xs

@@ -13,6 +13,7 @@ use Rattle.level.specs.declared.Weighing.{Weighing}
 use Rattle.level.specs.declared.Joint.{Joint}
 use Rattle.level.specs.declared.Level.{Level}
 use Rattle.level.specs.Weighing.{runOf}
+use Rattle.level.specs.Bs1770.{mean}
 use Rattle.level.specs.Level as level
 use Rattle.level.specs.Valid.{Valid}
 use Rattle.level.proofs.Finite.{Alls, _and_, all-finite, finite-all, only, parts, new-finite}
@@ -116,7 +117,7 @@ module _ (l : Level) (s : Surround) (xs : List Float) where
   joint-fits = subst (λ (x : Float). T (fits binary64 x)) (sym fast-after) (fast-fits zero64 (usedWeights (f .surround .layout)) (ownOf after ∷ f .surround .others) (zero-num .1))
 
   pub bed-tells : length (l .powers .list) ≡ 300 → Lists after (ofChannels (f .surround .others)) (bedFast after (f .surround)) → T (f .framed .finite)
-  unfolding bedFrameOf channels.jointFrameOf channels.finishJoint level.readOf level.meansOf level.lufsOf level.pushOf level.meanOver
+  unfolding bedFrameOf channels.jointFrameOf channels.finishJoint level.readOf level.meansOf level.lufsOf level.pushOf mean
   bed-tells n a =
       let stored = parts (ofChannel (ownOf after)) (a .stored) in
       let power = only (new-finite (l .powers .count) (l .powers .list) _ (omega (arith, n)) (stored .1)) in

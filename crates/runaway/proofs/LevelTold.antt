@@ -10,7 +10,7 @@ use lib.Ieee.{Float, binary64, lt, fits}
 use lib.Ieee.Fits.{add-fits, div-fits, and-i, and-r}
 use lib.Ieee.Scale.{finite}
 use Rattle.float.specs.Choice.{maxOf}
-use Rattle.level.specs.Bs1770.{loudness}
+use Rattle.level.specs.Bs1770.{mean, loudness}
 use Rattle.float.specs.Arithmetic.{zero64}
 use Rattle.float.specs.AllFinite.{allFinite}
 use Rattle.level.specs.declared.Level.{Level}
@@ -94,7 +94,7 @@ module _ (l : Level) (xs : List Float) where
   level-told v t = record { stored = of-level after (frame-valid l xs v t); others = none; logarithm = handed-on t }
 
   pub level-tells : length (l .powers .list) ≡ 300 → Lists after [] (keyFast after) → T (level.frameOf l xs .finite)
-  unfolding level.frameOf level.finishOf level.readOf level.meansOf level.joinedOf level.lufsOf level.pushOf level.meanOver
+  unfolding level.frameOf level.finishOf level.readOf level.meansOf level.joinedOf level.lufsOf level.pushOf mean
   level-tells n a =
       let stored = parts (level.storedOf w) (a .stored) in
       and-i (allFinite (level.storedOf w)) (allFinite numbers) (all-finite (stored .0))

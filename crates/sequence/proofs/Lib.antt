@@ -4,6 +4,7 @@ pub mod Filled
 pub mod Shift
 pub mod Latest
 pub mod Newest
+pub mod Series
 pub mod Places
 pub mod Counted
 pub mod All

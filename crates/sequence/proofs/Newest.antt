@@ -1,15 +1,19 @@
 -- Newest first: the laws that a loop cites which goes down the places of a count, and what the Rust's `iter().rev().take(n)` sees.
-use Prim.Native.Nat.{ℕ, zero, suc, _+_, _-_, _≤_, _<_}
+use Prim.Native.Nat.{ℕ, zero, suc, _+_, _-_, _≤_, _<_, min}
 use native.Mathlib.Numerals.{sub-one}
 use native.Mathlib.Nat.{zero-add, suc-add}
 use native.Mathlib.Omega.{arith}
 use mathlib.Core.Path.{_≡_, refl, ap, sym, _∙_}
 use mathlib.Core.List.{List, [], _∷_, _++_, reverse, reverse-append, reverse-reverse}
-use lib.ListN.{length, getD, take, drop, length-drop, length-reverse, take-append-drop}
+use lib.ListN.{length, getD, take, drop, length-take, length-drop, length-reverse, take-append-drop}
 use lib.Seq.{drop-at, take-suc, take-nil, take-take}
 use Rattle.sequence.specs.History.{latest, newest, held}
 
 module _ {A : Type 0} where
+  pub newest-length : (n : ℕ) (xs : List A) → length (newest n xs) ≡ min n (length xs)
+  unfolding newest
+  newest-length n xs = length-take n (reverse xs) ∙ ap (min n) (length-reverse xs)
+
   -- ---- a loop that goes down from place c, with k values to take
 
   newest-more : (d : A) (places : List A) (c k : ℕ) → c < length places

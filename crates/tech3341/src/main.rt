@@ -324,11 +324,11 @@ fn greatest(case: u64, m: Meter, w: Window, i: u64, below: u64)
     print_reading(e.greatest, below);
 }
 
-// Cases 1 and 2: a tone of 20 s. M and S are constant once the 3 s of S are heard.
+// Cases 1 and 2: a tone of 20 s. M and S are constant from the first frame on: while there are fewer frames than a window has, it has those.
 fn steady(case: u64, below: u64)
     requires { ⌜ (19 ≤ below) × (below < 39) ⌝ }
 {
-    let m = Meter::new(3 * SECOND).play(amplitude(below), 20 * SECOND);
+    let m = Meter::new(0).play(amplitude(below), 20 * SECOND);
     constant(case, m, Window::Momentary, below);
     constant(case, m, Window::ShortTerm, below);
 }

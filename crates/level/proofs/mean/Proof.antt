@@ -1,7 +1,6 @@
 -- `level::mean` meets its contract.
 use mathlib.Core.Path.{sym}
 use borrow.Author.Needs.{needs}
-use Rattle.level.specs.Level.{meanOver}
 use Rattle.level.proofs.mean.Statement.{statement}
 use Rattle.level.proofs.mean.Tie as tie
 
@@ -9,7 +8,6 @@ nearest-u64-to-f64-requires : tie.Need-nearest-u64-to-f64-requires
 nearest-u64-to-f64-requires c κs = search needs
 
 returns : tie.Need-returns
-unfolding meanOver
 returns c =
     simp (sym (c .nearest-u64-to-f64 .ensures))
 

@@ -1,7 +1,9 @@
 -- `Joint::read` meets its contract.
+use Prim.Native.Nat.{_<_}
 use mathlib.Core.Path.{sym}
 use borrow.Author.Needs.{needs}
 use Rattle.level.specs.Level.{readOf}
+use Rattle.level.proofs.Sum.{some-frame}
 use Rattle.level.proofs.Joint.read.Statement.{statement}
 use Rattle.level.proofs.Joint.read.Tie as tie
 
@@ -9,7 +11,9 @@ push-requires : tie.Need-push-requires
 push-requires c κs = search needs
 
 means-requires : tie.Need-means-requires
-means-requires c κs = search needs
+means-requires c κs =
+    let next : 0 < c .push .result .count = rw (c .push .ensures) (some-frame _ _) in
+    next
 
 lufs-requires : tie.Need-lufs-requires
 lufs-requires c κs = search needs
