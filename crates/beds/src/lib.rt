@@ -1,4 +1,6 @@
 // The beds that have a name: mono, stereo, 5.1 and 7.1, with their layouts (specs/Beds.antt). Channels are in ffmpeg's order.
+#![tactic(auto)]
+
 ghost use Rattle.std.specs.Prelude.{◌≡◌, ◌<◌};
 ghost use Rattle.beds.specs.Beds.{left, right, layout_for, found_of};
 ghost use Rattle.beds.specs.declared.Bed.TheVariants.{Stereo, FiveOne, SevenOne};

@@ -1,4 +1,6 @@
 // Second-order sections in transposed direct form II, in f64, and the six that a strand runs (48 kHz).
+#![tactic(auto)]
+
 ghost use Rattle.std.specs.Prelude.{◌≡◌};
 ghost use Rattle.biquad.specs.Tick.{at_rest, tick_of};
 ghost use Rattle.biquad.specs.Sections.{sections_of};

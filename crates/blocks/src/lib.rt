@@ -1,4 +1,6 @@
 // Images of any number of blocks: their words, their bytes and the check of each block. What the words mean is said elsewhere.
+#![tactic(auto)]
+
 ghost use Rattle.std.specs.Prelude.{◌≡◌, ◌+◌, ◌*◌, ◌<◌, ◌≤◌, length, take, drop, slice_index};
 ghost use Rattle.blocks.specs.Lists.{laid, Laid, same};
 ghost use Rattle.blocks.specs.Words.{

@@ -1,5 +1,7 @@
 // A chain: the key strand (0, the commentator), the bed strand (1) with its channels, the settings and the ducker. A frame, a settings call, a reset
 // or a layout call gets an answer or one refusal, and a refusal leaves the chain as it was.
+#![tactic(auto)]
+
 ghost use Rattle.std.specs.Prelude.{◌≡◌, take};
 ghost use Rattle.level.specs.Bs1770.{frame_length};
 ghost use Rattle.level.specs.Weighing.{run_of};

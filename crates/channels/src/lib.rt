@@ -1,5 +1,7 @@
 // The bed's loudness by BS.1770: 1 to 8 channels, each with its own filters and fast mean square, joined by their weights.
 // Channel 1 is that of the bed strand's level; `Surround` is what a chain keeps beside it.
+#![tactic(auto)]
+
 mod pairs;
 mod rest;
 mod run;

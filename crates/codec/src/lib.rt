@@ -1,5 +1,7 @@
 // Numbers as words of a slice, and words as numbers. Each function is total: a word without a place is dropped, one that
 // isn't there reads as 0, and a word that breaks a rule is read as some good value.
+#![tactic(auto)]
+
 ghost use Rattle.std.specs.Prelude.{◌≡◌, ◌∷◌, [], suc, ◌+◌, eqb, length, get_or, set, replicate};
 ghost use Rattle.std.proofs.Math.Option.{some};
 ghost use Rattle.std.specs.Float.{binary32, binary64};

@@ -1,6 +1,8 @@
 // The control of the ratio of commentary (COM) to bed (IS), after Com-IS-Assist by Andreas Weiss (MIT): three loops, slow, mid and fast,
 // whose reductions add.
 // Readings are those of the dry signals, so that a reduction of 1 dB raises the ratio by 1 LU.
+#![tactic(auto)]
+
 pub mod engine;
 pub mod envelope;
 pub mod loop_bank;

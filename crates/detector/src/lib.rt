@@ -1,5 +1,7 @@
 // The voice detector: turns a frame of 10 ms (480 samples at 48 kHz) into a speech probability and its four features, by the energy of the
 // band 250 Hz to 4 kHz over its noise floor, the modulation of that band, and the voicing of that band below 1 kHz.
+#![tactic(auto)]
+
 mod filters;
 mod floor;
 mod modulation;

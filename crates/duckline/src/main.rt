@@ -1,6 +1,8 @@
 // Reads frames from standard input (the key, then the bed's channels, 480 samples each, f32 little-endian), runs them through a chain with fresh
 // settings and the layout that is asked for, and writes a line for each. One read takes what is there, up to 16 frames of one channel or 3 of eight;
 // their lines are written before the next read can wait. What fails is told on standard error, and ends the program.
+#![tactic(auto)]
+
 mod help;
 
 ghost use Rattle.std.specs.Prelude.{◌≡◌, ◌≤◌, length};

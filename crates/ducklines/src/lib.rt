@@ -1,5 +1,7 @@
 // What bytes that were read lead to: the frames among them run through a chain, and each gets a line (specs/Frames.antt). That the text doesn't
 // depend on how the input is cut into reads is specs/Reads.antt, which `promises` holds.
+#![tactic(auto)]
+
 ghost use Rattle.std.specs.Prelude.{◌≡◌, ◌+◌, ◌≤◌, length, take};
 ghost use Rattle.chain.specs.Chain.{frame_of};
 ghost use Rattle.frame_bytes.specs.Bytes.{bed_samples};

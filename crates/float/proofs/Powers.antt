@@ -1,5 +1,5 @@
 -- Laws of powers that the native library lacks, and a form of Bernoulli's inequality.
-use Rattle.std.proofs.Common.{◌≡◌, ℕ, zero, suc, ◌+◌, ◌-◌, ◌*◌, ◌^◌, ◌<◌, ◌≤◌, sym, ap, ◌∙◌, ap₂, mul-le-mul_right, mul_assoc, suc-mul, mul_comm, add-mul, mul-le-mul_left, pow-suc, mul-one, mul-suc, mul-add, mul_right_comm, le_of_mul-le-mul_right, arith, pow-add}
+use Rattle.std.proofs.Common.{◌≡◌, ℕ, zero, suc, ◌+◌, ◌*◌, ◌^◌, ◌<◌, ◌≤◌, sym, ap, ◌∙◌, ap₂, mul-le-mul_right, mul_assoc, suc-mul, mul_comm, add-mul, mul-le-mul_left, pow-suc, mul-one, mul-suc, mul-add, mul_right_comm, le_of_mul-le-mul_right, arith, pow-add}
 use native.Mathlib.Nat.{mul-mul-mul_comm, pow-zero}
 use native.Mathlib.Numerals.{unary_clauses}
 

@@ -1,5 +1,5 @@
 -- `round` gives a whole number: the one nearest, and of two that are as near the one away from zero.
-use Rattle.std.proofs.Common.{◌≡◌, ℕ, suc, ◌+◌, ◌-◌, ◌*◌, ◌^◌, ◌<◌, ◌≤◌, Bool, T, ℤ, pos, negsuc, sym, refl, subst, true≢false, le_trans, le_refl, le_of_suc-le-suc, le_of_lt, mul-le-mul_right, div-lt_iff_lt-mul, le-div_iff_mul-le, mul-one, arith, pow_mono}
+use Rattle.std.proofs.Common.{◌≡◌, ℕ, suc, ◌+◌, ◌*◌, ◌^◌, ◌<◌, ◌≤◌, Bool, T, ℤ, pos, negsuc, sym, refl, subst, true≢false, le_trans, le_refl, le_of_suc-le-suc, le_of_lt, mul-le-mul_right, div-lt_iff_lt-mul, le-div_iff_mul-le, mul-one, arith, pow_mono}
 use lib.Ieee.{Float, nan, inf, fin, Format, up, down, fits}
 use lib.Ieee.Exact.{HasValue}
 use lib.Ieee.Back.{round_whole}

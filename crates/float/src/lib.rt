@@ -1,4 +1,6 @@
 // Floats: what kind of f64 a value is, and the choices, the rounding and the finite tests that all other modules compute with.
+#![tactic(auto)]
+
 ghost use Rattle.std.specs.Prelude.{◌≡◌, true, T, length, replicate, if◌then◌else◌, from_bits, to_bits};
 ghost use Rattle.std.specs.Float.{binary32, binary64};
 ghost use Rattle.std.specs.Float.Ieee.{lt};

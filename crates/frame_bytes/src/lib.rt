@@ -1,5 +1,7 @@
 // The samples in a buffer of frames, and what is left behind some of them (specs/Bytes.antt). A frame is 480 samples of the key, then 480 of each
 // of the bed's channels, one channel after the other, each an f32, the lowest byte first. A byte past the end of the buffer counts as 0.
+#![tactic(auto)]
+
 ghost use Rattle.std.specs.Prelude.{◌≡◌, ◌+◌, ◌-◌, ◌*◌, ◌^◌, ◌≤◌, ◌<◌, length};
 ghost use Rattle.std.proofs.Math.Seq.{paste};
 ghost use Rattle.sequence.specs.History.{laid};

@@ -1,5 +1,7 @@
 // The customer's calls on a chain: a frame, a settings call, a reset, a layout call, a save, a restore. Each is total: it gets an answer or one refusal.
 // A contract says the call's result by its definition, and that the result is what the port of the demands does.
+#![tactic(auto)]
+
 ghost use Rattle.std.specs.Prelude.{◌≡◌};
 ghost use Rattle.demands.specs.Calls.{event, save, restore};
 ghost use Rattle.chain.specs.Chain.{fresh_of, frame_of, set_of, reset_of, layout_of};

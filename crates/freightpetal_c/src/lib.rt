@@ -1,6 +1,8 @@
 // The calls for C and Rust. The caller lends 11,264 bytes that hold the chain's image: a call restores the chain from them, runs, and saves it
 // back. Each answers a number of the specification's table, 0 where it passed; a refusal changes nothing that is lent. library/freightpetal.h has
 // the declarations.
+#![tactic(auto)]
+
 ghost use Rattle.std.specs.Prelude.{◌≡◌};
 ghost use Rattle.words.specs.Words.{settings_from, layout_from};
 ghost use Rattle.freightpetal_c.specs.Lent.{

@@ -1,6 +1,8 @@
 // Images of a chain: saved into lent bytes, and restored from them. An image is 22 blocks of 512 bytes; the words between the
 // checks are the chain's numbers by their bits. That is edition 2. An image of edition 1, 21 blocks, has no words for the bed's
 // channels: it restores as a chain whose bed is one channel at 0, 0.
+#![tactic(auto)]
+
 ghost use Rattle.std.specs.Prelude.{◌≡◌, cond, ◌+◌, ◌^◌, ◌≤◌};
 ghost use Rattle.blocks.specs.Lists.{laid};
 ghost use Rattle.codec.specs.Run.{Run};

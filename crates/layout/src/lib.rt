@@ -1,5 +1,7 @@
 // A bed's layout: 1 to 8 channels, each at an azimuth and an elevation in whole degrees or an LFE, and their weights by BS.1770-4.
 // Each field is a 64-bit word as it comes in a call or an image, a negative angle in two's complement: any words can be held, and turned away.
+#![tactic(auto)]
+
 ghost use Rattle.std.specs.Prelude.{◌≡◌, min};
 ghost use Rattle.layout.specs.Layout.{channel_count, size_of, within_of, placed_of, layout_within, stored_of, mono_of, blanks};
 ghost use Rattle.layout.specs.Weights.{weight_of, weights_of, no_weights};

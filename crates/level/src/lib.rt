@@ -1,5 +1,7 @@
 // A strand's loudness by BS.1770, for each frame of 10 ms: momentary (400 ms), short-term (3 s) and fast (50 ms).
 // Before 400 ms or 3 s of frames the means are those of the frames that there are.
+#![tactic(auto)]
+
 ghost use Rattle.std.specs.Prelude.{◌≡◌, ◌<◌, T};
 ghost use mathlib.Core.List.{foldl};
 ghost use Rattle.float.specs.Arithmetic.{◌⊘◌, whole};

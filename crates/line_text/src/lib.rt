@@ -1,4 +1,6 @@
 // duckline's lines (specs/Line.antt), put into a text that is lent.
+#![tactic(auto)]
+
 ghost use Rattle.std.specs.Prelude.{◌≡◌, ◌+◌, ◌-◌, ◌^◌, ◌≤◌, min, ◌++◌, length};
 ghost use Rattle.program.specs.Text.{ascii};
 ghost use Rattle.line_text.specs.Line.{decimal, line, state_name, active_name, hundredths_of, answer_words, line_of, short_line, put_at};

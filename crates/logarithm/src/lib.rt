@@ -1,4 +1,6 @@
 // The logarithm of an f64 to base 2 and to base 10, by whole numbers.
+#![tactic(auto)]
+
 ghost use Rattle.std.specs.Prelude.{◌≡◌, ◌+◌, ◌*◌, ◌^◌, ◌≤◌, ◌<◌};
 ghost use Rattle.std.specs.Float.Ieee.{minus};
 ghost use Rattle.logarithm.specs.Logarithm.{steps, fraction_of, whole_log_of, quotient_of, log2_of, log10_of};

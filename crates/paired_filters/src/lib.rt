@@ -1,4 +1,6 @@
 // The filters of both strands side by side: the level's and the detector's, of the key and of the bed, over a frame.
+#![tactic(auto)]
+
 ghost use Rattle.std.specs.Prelude.{◌≡◌, length};
 ghost use Rattle.level.specs.Bs1770.{frame_length};
 ghost use Rattle.detector.specs.Filters.{outputs_of};

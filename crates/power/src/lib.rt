@@ -1,4 +1,6 @@
 // The powers 2^y, e^x, 10^u and 60^u, by integers: a product of roots for the fraction of y, and the binary exponent for the rest.
+#![tactic(auto)]
+
 ghost use Rattle.std.specs.Prelude.{◌≡◌, ◌+◌, ◌-◌, ◌*◌, ◌/◌, ◌^◌, ◌≤◌, ◌<◌};
 ghost use Rattle.power.specs.Roots.{roots};
 ghost use Rattle.power.specs.Power.{raise, above, floor_units, pow_at, exp2_of, exp_of, exp10_of, exp60_of};

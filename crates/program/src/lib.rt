@@ -1,4 +1,6 @@
 // What the programs share: what their arguments ask for, reads of standard input, and what is said where a write fails.
+#![tactic(auto)]
+
 pub mod arguments;
 pub mod input;
 pub mod output;

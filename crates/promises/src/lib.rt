@@ -1,5 +1,7 @@
 // Every promise beside the contracts of the calls, as one list. The functions do nothing: their contracts are the promises, so that these are part
 // of the verdict.
+#![tactic(auto)]
+
 ghost use Rattle.demands.specs.Demands.{Demands, EventDemands};
 ghost use Rattle.rules.specs.Rules as chain;
 ghost use Rattle.rules.specs.Rules.{rules};

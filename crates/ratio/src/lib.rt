@@ -1,5 +1,7 @@
 // One frame of a ratio duck: by how many decibels the bed goes down, so that the dialogue stays a target above it.
 // Readings are those of the dry signals, LUFS.
+#![tactic(auto)]
+
 ghost use Rattle.std.specs.Prelude.{◌≡◌};
 ghost use Rattle.ratio.specs.Status.{reading_of, rounded_of, ratio_shown, config_of, status_of};
 ghost use Rattle.ratio.specs.Finite.{finite_shown, finite_loops, finite_status};

@@ -1,4 +1,6 @@
 // Replays what the Rust answered, as compare/record wrote it to data/, through the port, and says how many answers differ by their bits.
+#![tactic(auto)]
+
 mod bits;
 mod decision;
 mod detector_frames;

@@ -1,4 +1,6 @@
 // The refusals and their numbers.
+#![tactic(auto)]
+
 ghost use Rattle.std.specs.Prelude.{◌≡◌};
 ghost use Rattle.refusal.specs.Table.{number_of};
 

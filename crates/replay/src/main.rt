@@ -10,6 +10,8 @@
 // 1 duck, 2 interview, 3 overvoice), the unrounded reduction, reduction_db, slow_db, mid_db, fast_db, target_lu; ratio_lu, dialogue_lufs and
 // bed_lufs, each as flag and value; then for key and bed active, probability, speech_level as flag and value, level_dbfs, momentary_lufs, gated,
 // short_term_lufs, onsets, offsets, over_floor_db, modulation_db, voicing, anti. A float is its bits, and an absent value 0.
+#![tactic(auto)]
+
 mod answers;
 mod input;
 

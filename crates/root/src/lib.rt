@@ -1,4 +1,6 @@
 // The square root of an f64, to the nearest: a guess in floats that exact integers check, and a plain loop where the guess is off.
+#![tactic(auto)]
+
 ghost use Rattle.std.specs.Prelude.{◌≡◌, true, ◌*◌, ◌^◌, ◌≤◌, ◌<◌};
 ghost use Rattle.root.specs.Root.{root_of_units, sqrt_of};
 ghost use Rattle.root.specs.Steps.{IsRoot, Stepped, Near};

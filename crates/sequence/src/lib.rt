@@ -1,5 +1,7 @@
 // Histories in fixed arrays: a count, and the latest values in the first places, oldest first.
 // specs/ has what they mean, and proofs/ the laws of folds and histories that every loop cites.
+#![tactic(auto)]
+
 ghost use Rattle.std.specs.Prelude.{◌≡◌, min, max, [], ◌∷◌, length};
 ghost use Rattle.sequence.specs.History.{slid, count_after, places_after};
 

@@ -1,4 +1,6 @@
 // The settings: their ranges, what is stored of them, and those of a fresh chain.
+#![tactic(auto)]
+
 ghost use Rattle.std.specs.Prelude.{◌≡◌};
 ghost use Rattle.settings.specs.Settings.{
   call_ranges,

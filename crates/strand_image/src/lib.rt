@@ -1,5 +1,7 @@
 // The 628 words of a strand in an image: written, and read back. Words that break a rule are read as some good strand, whose
 // words differ from those read.
+#![tactic(auto)]
+
 ghost use Rattle.std.specs.Prelude.{◌≡◌, ◌+◌, ◌^◌, ◌≤◌};
 ghost use Rattle.codec.specs.Run.{Run};
 ghost use Rattle.strand_image.specs.Strand.{

@@ -1,5 +1,7 @@
 // The 88 words of a bed's channels in an image: how many there are, where each of eight is, and the numbers of channels 2 to 8;
 // written, and read back. Words that break a rule are read as some good channels, whose words differ from those read.
+#![tactic(auto)]
+
 ghost use Rattle.std.specs.Prelude.{◌≡◌, ◌+◌, ◌^◌, ◌≤◌, get_or};
 ghost use Rattle.layout.specs.Layout.{blank};
 ghost use Rattle.channels.specs.Channels.{resting};

@@ -3,6 +3,8 @@
 // what is expected is the document's value less 10 log10 2 = 3.01 LU. The tolerance is the document's.
 // The other cases are of integrated loudness, loudness range, true peak or more channels, which `Level` doesn't measure.
 // Durations are in frames of 10 ms, levels in dB below full scale (peak).
+#![tactic(auto)]
+
 ghost use Rattle.std.specs.Prelude.{◌<◌, ◌≤◌};
 
 use float::Lufs;

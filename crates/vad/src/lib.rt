@@ -1,5 +1,7 @@
 // The voice activity of one strand: the decision over the detector's probabilities (gate, smoothing, threshold with hysteresis, hold), its
 // counts and speech power, and the strand itself, which is level, detector and decision.
+#![tactic(auto)]
+
 ghost use Rattle.std.specs.Prelude.{◌≡◌, ◌<◌};
 ghost use Rattle.vad.specs.Hold.{hold_frames};
 ghost use Rattle.vad.specs.Decision.{

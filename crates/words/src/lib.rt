@@ -1,5 +1,7 @@
 // Answers as words of 64 bits, and settings and layouts from words: for a list of calls in a file, for recorded answers and for callers in C. A float is
 // its bits, a flag 0 or 1, an absent value 0.
+#![tactic(auto)]
+
 ghost use Rattle.std.specs.Prelude.{◌≡◌, ◌+◌, ◌≤◌, length};
 ghost use Rattle.blocks.specs.Lists.{Laid};
 ghost use Rattle.words.specs.Words.{

@@ -4,8 +4,7 @@ use lib.Ieee.{Float, binary64, ne, is_nan, of_bits, to_bits}
 use lib.Ieee.Bits.{of_bits-to_bits}
 use Rattle.float.proofs.Classified.{the_nan, number}
 use Rattle.float.specs.Same.{same_of}
-use Rattle.float.proofs.same.Statement.{statement}
-use Rattle.float.proofs.same.Tie as tie
+use Rattle.float.proofs.same.Goals as goal
 
 is-nan : (x : Float) → ne x x ≡ true → is_nan x ≡ true
 unfolding is_nan
@@ -31,27 +30,24 @@ module _ (a b : Float) where
   unfolding same_of
   by_bits h k = simp (no_nan a h, no_nan b k)
 
-returns : tie.Need-returns
-returns c = (first-nan c.before.args.a c.before.args.b c.if1.true, λ t. absurd t)
+pub returns-then-a : goal.returns-then-a
+returns-then-a c = (first-nan c.args.a c.args.b c.if-a.true, λ t. absurd t)
 
-returns-2 : tie.Need-returns-2
-returns-2 c = (second-nan c.before.before.args.a c.before.before.args.b c.before.if1.false c.if2.true, λ t. absurd t)
+pub returns-then-b : goal.returns-then-b
+returns-then-b c = (second-nan c.args.a c.args.b c.if-a.false c.if-b.true, λ t. absurd t)
 
-float-to-bits-result : tie.Need-float-to-bits-result
-float-to-bits-result c = number c.before.before.args.a c.before.if1.false
+pub float_to_bits-result : goal.float_to_bits-result
+float_to_bits-result c = number c.args.a c.if-a.false
 
-float-to-bits-result-2 : tie.Need-float-to-bits-result-2
-float-to-bits-result-2 c = number c.before.before.args.b c.if2.false
+pub float_to_bits-result-2 : goal.float_to_bits-result-2
+float_to_bits-result-2 c = number c.args.b c.if-b.false
 
-returns-3 : tie.Need-returns-3
-returns-3 c =
-    let a = c.before.before.args.a in
-    let b = c.before.before.args.b in (
-      by_bits a b c.before.if1.false c.if2.false,
-      λ t. sym (of_bits-to_bits binary64 a (subst T (sym c.before.before.well-formed.0.1) tt))
+pub returns : goal.returns
+returns c =
+    let a = c.args.a in
+    let b = c.args.b in (
+      by_bits a b c.if-a.false c.if-b.false,
+      λ t. sym (of_bits-to_bits binary64 a (subst T (sym c.well_formed.0.1) tt))
           ∙ ap (of_bits binary64) (eqb→eq (to_bits binary64 a) (to_bits binary64 b) t)
-          ∙ of_bits-to_bits binary64 b (subst T (sym c.before.before.well-formed.1.0.1) tt),
+          ∙ of_bits-to_bits binary64 b (subst T (sym c.well_formed.1.0.1) tt),
     )
-
-pub same_spec : {M : Type 1} → statement M
-same_spec = tie.close (tie.spec returns returns-2 float-to-bits-result float-to-bits-result-2 returns-3)

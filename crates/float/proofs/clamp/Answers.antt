@@ -1,0 +1,24 @@
+-- `float::clamp` meets its contract.
+use Rattle.float.specs.Choice.{clamp_of}
+use Rattle.float.proofs.clamp.Goals as goal
+
+pub returns-then-x-low : goal.returns-then-x-low
+unfolding clamp_of
+returns-then-x-low c =
+    simp c.if-x-low.true
+
+pub returns-then-high-x : goal.returns-then-high-x
+unfolding clamp_of
+returns-then-high-x c =
+    simp (
+      c.if-x-low.false,
+      c.if-high-x.true,
+    )
+
+pub returns : goal.returns
+unfolding clamp_of
+returns c =
+    simp (
+      c.if-x-low.false,
+      c.if-high-x.false,
+    )
