@@ -10,7 +10,7 @@ ghost use Rattle.layout.specs.Weights.{weight_of, weights_of, no_weights};
 pub const MOST: usize = 8;
 
 // Where a channel is: degrees, and 1 for an LFE, else 0.
-#[derive(Drop)]
+#[derive(Clone, Copy)]
 pub struct Place {
     pub azimuth: u64,
     pub elevation: u64,
@@ -18,7 +18,7 @@ pub struct Place {
 }
 
 // The first count of the places are the channels', in their order.
-#[derive(Drop)]
+#[derive(Clone, Copy)]
 pub struct Layout {
     pub count: u64,
     pub places: [Place; 8],
