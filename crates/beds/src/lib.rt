@@ -7,7 +7,7 @@ ghost use Rattle.beds.specs.declared.Bed.TheVariants.{Stereo, FiveOne, SevenOne}
 
 use layout::{Layout, Place};
 
-#[derive(Drop)]
+#[derive(Clone, Copy)]
 pub enum Bed {
     Mono,
     Stereo,
@@ -16,7 +16,7 @@ pub enum Bed {
 }
 
 // What a word finds.
-#[derive(Drop)]
+#[derive(Clone, Copy)]
 pub enum Found {
     Known(Bed),
     Unknown,

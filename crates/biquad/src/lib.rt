@@ -6,7 +6,7 @@ ghost use Rattle.biquad.specs.Tick.{at_rest, tick_of};
 ghost use Rattle.biquad.specs.Sections.{sections_of};
 
 // Normalised coefficients (a0 = 1).
-#[derive(Drop)]
+#[derive(Clone, Copy)]
 pub struct Coefficients {
     pub b0: f64,
     pub b1: f64,
@@ -16,14 +16,14 @@ pub struct Coefficients {
 }
 
 // The state of one section for one channel.
-#[derive(Drop)]
+#[derive(Clone, Copy)]
 pub struct State {
     pub z1: f64,
     pub z2: f64,
 }
 
 // One sample's output, and the state after it.
-#[derive(Drop)]
+#[derive(Clone, Copy)]
 pub struct Ticked {
     pub state: State,
     pub y: f64,

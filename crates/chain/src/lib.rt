@@ -21,7 +21,7 @@ use refusal::Refusal;
 use settings::Settings;
 use vad::{Strand, VadSettings, VadState};
 
-#[derive(Drop)]
+#[derive(Clone, Copy)]
 pub struct Chain {
     pub settings: Settings,
     pub key: Strand,
@@ -31,7 +31,7 @@ pub struct Chain {
 }
 
 // What a frame that passes is answered: the unrounded reduction of the bed, what is shown of it, and each strand's state.
-#[derive(Drop)]
+#[derive(Clone, Copy)]
 pub struct Answer {
     pub reduction: Db,
     pub status: RatioStatus,
@@ -39,41 +39,41 @@ pub struct Answer {
     pub bed: VadState,
 }
 
-#[derive(Drop)]
+#[derive(Clone, Copy)]
 pub enum Outcome {
     Passed(Answer),
     Refused(Refusal),
 }
 
 // The chain after a frame, and what the frame got.
-#[derive(Drop)]
+#[derive(Clone, Copy)]
 pub struct Framed {
     pub chain: Chain,
     pub outcome: Outcome,
 }
 
-#[derive(Drop)]
+#[derive(Clone, Copy)]
 pub enum Verdict {
     Passed,
     Refused(Refusal),
 }
 
 // The chain after a settings call, a reset or a layout call, and what the call got.
-#[derive(Drop)]
+#[derive(Clone, Copy)]
 pub struct Changed {
     pub chain: Chain,
     pub verdict: Verdict,
 }
 
 // A strand after a frame, and its channels.
-#[derive(Drop)]
+#[derive(Clone, Copy)]
 pub struct StrandFrame {
     pub framed: vad::Framed,
     pub surround: Surround,
 }
 
 // What a frame makes of a chain's strands and ducker, before anything of it is kept.
-#[derive(Drop)]
+#[derive(Clone, Copy)]
 pub struct Worked {
     pub key: vad::Framed,
     pub bed: vad::Framed,

@@ -18,7 +18,7 @@ use layout::{Layout, MOST};
 use level::{FRAME, Framed, Joint, Level, Weighing};
 
 // What a channel keeps from frame to frame.
-#[derive(Drop)]
+#[derive(Clone, Copy)]
 pub struct Channel {
     pub shelf: State,
     pub high_pass: State,
@@ -26,14 +26,14 @@ pub struct Channel {
 }
 
 // What a chain keeps beside the bed strand's level: the layout, and channels 2 to 8. Those past the layout's count are at rest.
-#[derive(Drop)]
+#[derive(Clone, Copy)]
 pub struct Surround {
     pub layout: Layout,
     pub others: [Channel; 7],
 }
 
 // What the channels' filters leave of a frame: the sums over them, whether the numbers that they store are finite, and the channels.
-#[derive(Drop)]
+#[derive(Clone, Copy)]
 pub struct Filtered {
     pub joint: Joint,
     pub finite: bool,
@@ -42,7 +42,7 @@ pub struct Filtered {
 }
 
 // The bed strand's level after a frame with what all channels read, and what is kept beside it.
-#[derive(Drop)]
+#[derive(Clone, Copy)]
 pub struct BedFramed {
     pub framed: Framed,
     pub surround: Surround,

@@ -9,21 +9,21 @@ use biquad::State;
 use level::{FRAME, Weighing};
 
 // A number of each of two channels.
-#[derive(Drop)]
+#[derive(Clone, Copy)]
 pub struct Pair {
     pub a: f64,
     pub b: f64,
 }
 
 // One section's state of two channels.
-#[derive(Drop)]
+#[derive(Clone, Copy)]
 pub struct States {
     pub z1: Pair,
     pub z2: Pair,
 }
 
 // The filters of two channels, their numbers side by side.
-#[derive(Drop)]
+#[derive(Clone, Copy)]
 pub struct Two {
     pub shelf: States,
     pub high_pass: States,
@@ -31,7 +31,7 @@ pub struct Two {
     pub energy: Pair,
 }
 
-#[derive(Drop)]
+#[derive(Clone, Copy)]
 pub struct Four {
     pub first: Two,
     pub second: Two,

@@ -10,7 +10,7 @@ use biquad::{K_HIGH_PASS, K_SHELF};
 use level::Weighing;
 
 // Whether a channel rests, and then its filters after the frame.
-#[derive(Drop)]
+#[derive(Clone, Copy)]
 pub struct Rest {
     pub rests: bool,
     pub weighing: Weighing,

@@ -14,14 +14,14 @@ use layout::MOST;
 use level::{FRAME, Weighing};
 
 // The channels' filters after a frame, and which channels have been run.
-#[derive(Drop)]
+#[derive(Clone, Copy)]
 struct Run {
     weighed: [Weighing; 8],
     done: [bool; 8],
 }
 
 // Channels, the first count of these places.
-#[derive(Drop)]
+#[derive(Clone, Copy)]
 struct Waiting {
     count: usize,
     places: [usize; 8],

@@ -6,7 +6,7 @@ use super::loop_bank::{LoopBankConfig, Loops, Need, Updated};
 use super::mix_state::MixState;
 use float::{Db, Lufs, SILENCE_LUFS};
 
-#[derive(Drop)]
+#[derive(Clone, Copy)]
 pub struct AutomixEngineConfig {
     // How far the commentary is to be above the bed, LU.
     pub target_ratio_lu: f64,
@@ -18,7 +18,7 @@ pub struct AutomixEngineConfig {
 }
 
 // What slow and mid work from, dry: the bed's loudness over 3 s and 400 ms, the dialogue's over 3 s.
-#[derive(Drop)]
+#[derive(Clone, Copy)]
 pub struct LoudnessSnapshot {
     pub bed_short_term_lufs: Lufs,
     pub bed_momentary_lufs: Lufs,
@@ -26,7 +26,7 @@ pub struct LoudnessSnapshot {
 }
 
 // The state of this frame, and slow and mid after their step.
-#[derive(Drop)]
+#[derive(Clone, Copy)]
 pub struct AutomixResult {
     pub state: MixState,
     pub updated: Updated,

@@ -2,20 +2,20 @@
 ghost use Rattle.std.specs.Prelude.{◌≡◌};
 ghost use Rattle.comis.specs.Envelope.{coeff_of, process_of};
 
-#[derive(Drop)]
+#[derive(Clone, Copy)]
 pub struct EnvelopeDetector {
     pub current: f64,
 }
 
 // An envelope after a step, and whether the number that the step handed to e ^ x, if any, was finite.
-#[derive(Drop)]
+#[derive(Clone, Copy)]
 pub struct Stepped {
     pub envelope: EnvelopeDetector,
     pub finite: bool,
 }
 
 // The part of the distance to the target that a step leaves, and whether the number handed to e ^ x, if any, was finite.
-#[derive(Drop)]
+#[derive(Clone, Copy)]
 pub struct Coefficient {
     pub value: f64,
     pub finite: bool,

@@ -12,7 +12,7 @@ ghost use Rattle.std.specs.Prelude.{◌≡◌};
 ghost use Rattle.comis.specs.Shown.{shown_flag, shown_value};
 
 // A reading shown to the operator: silence, or a level; LUFS for a loudness, LU for a ratio.
-#[derive(Drop)]
+#[derive(Clone, Copy)]
 pub enum Shown {
     Silence,
     Level(f64),

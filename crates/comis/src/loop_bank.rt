@@ -7,7 +7,7 @@ use super::mix_state::MixState;
 use float::Db;
 
 // Time constants of a loop at speed 1, seconds.
-#[derive(Drop)]
+#[derive(Clone, Copy)]
 pub struct Ballistics {
     pub attack_seconds: f64,
     pub release_seconds: f64,
@@ -34,7 +34,7 @@ const RELEASE_HOLD_SECONDS: f64 = 0.8;
 // How much faster the interview state recovers than a plain release.
 const INTERVIEW_RELEASE_SPEEDUP: f64 = 4.0;
 
-#[derive(Drop)]
+#[derive(Clone, Copy)]
 pub struct LoopBankConfig {
     // Scales every time constant: above 1 is faster.
     pub speed: f64,
@@ -47,7 +47,7 @@ pub struct LoopBankConfig {
 }
 
 // What a ducker keeps from frame to frame: the loops' reductions, dB, and what is left of the ease-in, seconds.
-#[derive(Drop)]
+#[derive(Clone, Copy)]
 pub struct Loops {
     pub slow: Db,
     pub mid: Db,
@@ -56,21 +56,21 @@ pub struct Loops {
 }
 
 // What a loop needs: nothing, where a reading is silence, or a reduction, dB, which may be below 0.
-#[derive(Drop)]
+#[derive(Clone, Copy)]
 pub enum Need {
     Nothing,
     Reduction(Db),
 }
 
 // The loops after an update, and whether all that the update handed to e ^ x was finite.
-#[derive(Drop)]
+#[derive(Clone, Copy)]
 pub struct Updated {
     pub loops: Loops,
     pub finite: bool,
 }
 
 // What is shown and applied of the loops: each loop's reduction, and their sum from 0 to the deepest.
-#[derive(Drop)]
+#[derive(Clone, Copy)]
 pub struct LoopContributions {
     pub slow_db: Db,
     pub mid_db: Db,

@@ -2,7 +2,7 @@
 ghost use Rattle.std.specs.Prelude.{◌≡◌};
 ghost use Rattle.comis.specs.MixState.{from_vad, is_ducking, state_number};
 
-#[derive(Drop)]
+#[derive(Clone, Copy)]
 pub enum MixState {
     ReleaseToUnity,
     DuckToTarget,

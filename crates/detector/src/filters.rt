@@ -36,7 +36,7 @@ pub const KEPT: usize = FRAME / DECIMATE;
 pub const PITCH_WINDOW: usize = 240;
 
 // The states of the four sections: two of the speech band, two of the pitch filter.
-#[derive(Drop)]
+#[derive(Clone, Copy)]
 pub struct Filters {
     pub high_pass: State,
     pub low_pass: State,
@@ -46,7 +46,7 @@ pub struct Filters {
 
 // What runs from sample to sample: the sections, the energy of the frame so far, that of its speech band, and the latest output of the pitch
 // filter.
-#[derive(Drop)]
+#[derive(Clone, Copy)]
 pub struct Bands {
     pub filters: Filters,
     pub full: f64,
@@ -211,7 +211,7 @@ pub fn samples(xs: &[f32], to: &mut [f64])
 }
 
 // Of every eighth output of the pitch filter, as f32, the latest 240, oldest first; the places after them are 0.
-#[derive(Drop)]
+#[derive(Clone, Copy)]
 pub struct Decimated {
     pub count: usize,
     pub list: [f32; PITCH_WINDOW],

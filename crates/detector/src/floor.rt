@@ -12,14 +12,14 @@ const FLOOR_WINDOWS: usize = 8;
 const SMOOTHING: f64 = 0.3;
 
 // The minima of the latest 8 windows, oldest first; the places after them are 0.
-#[derive(Drop)]
+#[derive(Clone, Copy)]
 pub struct Minima {
     pub count: usize,
     pub list: [f64; FLOOR_WINDOWS],
 }
 
 // The smoothed band power, dB; none before the first frame.
-#[derive(Drop)]
+#[derive(Clone, Copy)]
 pub enum Smoothed {
     Unset,
     At(f64),
@@ -27,7 +27,7 @@ pub enum Smoothed {
 
 // What the noise floor is read from: the smoothed power, the minimum and the frames (0 to 24) of the open window, and the minima of those before
 // it. The minimum of an empty window is 0 and isn't looked at.
-#[derive(Drop)]
+#[derive(Clone, Copy)]
 pub struct Floor {
     pub smoothed: Smoothed,
     pub window_min: f64,
@@ -36,7 +36,7 @@ pub struct Floor {
 }
 
 // The floor after a frame, what it reads, dB, and what the frame stores: the smoothed power and the window's minimum with it.
-#[derive(Drop)]
+#[derive(Clone, Copy)]
 pub struct Floored {
     pub next: Floor,
     pub floor: f64,

@@ -45,7 +45,7 @@ pub fn db(power: f64) -> f64
 }
 
 // The band power over the noise floor, dB; its modulation, dB; the voicing; and the most negative autocorrelation (a tone near -1).
-#[derive(Drop)]
+#[derive(Clone, Copy)]
 pub struct Features {
     pub over_floor_db: f64,
     pub modulation_db: f64,
@@ -54,7 +54,7 @@ pub struct Features {
 }
 
 // What the detector saw in one frame: the speech probability, the frame's RMS level (dBFS) and the features.
-#[derive(Drop)]
+#[derive(Clone, Copy)]
 pub struct Frame {
     pub probability: f64,
     pub level_dbfs: f64,
@@ -62,7 +62,7 @@ pub struct Frame {
 }
 
 // The mean squares of a frame and of its speech band, and the band's in dB (e).
-#[derive(Drop)]
+#[derive(Clone, Copy)]
 pub struct FramePowers {
     pub full: f64,
     pub band: f64,
@@ -70,7 +70,7 @@ pub struct FramePowers {
 }
 
 // What the detector keeps from frame to frame.
-#[derive(Drop)]
+#[derive(Clone, Copy)]
 pub struct FeatureDetector {
     pub filters: Filters,
     pub decimated: Decimated,
@@ -79,7 +79,7 @@ pub struct FeatureDetector {
 }
 
 // The detector after a frame, what it saw, and whether every number that is stored, or handed to the logarithm, the root or the narrowing, is finite.
-#[derive(Drop)]
+#[derive(Clone, Copy)]
 pub struct Heard {
     pub detector: FeatureDetector,
     pub frame: Frame,

@@ -6,14 +6,14 @@ ghost use Rattle.detector.specs.Modulation.{total_of, deviations_of, variance_of
 const MODULATION_FRAMES: usize = 40;
 
 // The band powers of the latest 40 frames, dB, oldest first; the places after them are 0.
-#[derive(Drop)]
+#[derive(Clone, Copy)]
 pub struct History {
     pub count: usize,
     pub list: [f64; MODULATION_FRAMES],
 }
 
 // The history after a frame, the variance of its values, and their standard deviation, dB.
-#[derive(Drop)]
+#[derive(Clone, Copy)]
 pub struct Modulated {
     pub next: History,
     pub variance: f64,

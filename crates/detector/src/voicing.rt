@@ -39,7 +39,7 @@ const EVEN: f64 = 0.1;
 
 // At a lag: the energies of the window without its last values (head) and without its first (tail), as many as the lag has; the largest and the
 // smallest normalised autocorrelation so far; and whether every number that went to the root was finite.
-#[derive(Drop)]
+#[derive(Clone, Copy)]
 pub struct Ends {
     pub head: f64,
     pub tail: f64,
@@ -49,7 +49,7 @@ pub struct Ends {
 }
 
 // The largest and the smallest normalised autocorrelation, and whether every number that went to the root was finite.
-#[derive(Drop)]
+#[derive(Clone, Copy)]
 pub struct Voicing {
     pub voiced: f64,
     pub anti: f64,
@@ -86,7 +86,7 @@ fn products(sum: f64, x: &[f64], from: usize, lag: usize) -> f64
 }
 
 // The sums of eight lags.
-#[derive(Drop)]
+#[derive(Clone, Copy)]
 struct Eight {
     s0: f64,
     s1: f64,

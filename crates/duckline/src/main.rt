@@ -19,7 +19,7 @@ use program::input::Got;
 use program::{arguments, input, output};
 
 // How the lines ended.
-#[derive(Drop)]
+#[derive(Clone, Copy)]
 enum Ending {
     // With the input: so many bytes are left over.
     Ended(usize),

@@ -14,7 +14,7 @@ use layout::Layout;
 use line_text::TEXT;
 
 // A chain, the number of the frame that comes next, and the end of the text of the frames before it.
-#[derive(Drop)]
+#[derive(Clone, Copy)]
 pub struct Run {
     pub chain: Chain,
     pub number: u64,
@@ -92,7 +92,7 @@ fn frames(run: Run, buffer: &[u8; BUFFER], count: u16, text: &mut [u8; TEXT]) ->
 }
 
 // A run after a read, and how many bytes of the buffer are left.
-#[derive(Drop)]
+#[derive(Clone, Copy)]
 pub struct Next {
     pub run: Run,
     pub held: usize,

@@ -13,18 +13,18 @@ ghost use Rattle.float.specs.Whole.{limit, round_of};
 ghost use Rattle.float.specs.Arithmetic.{zero64};
 
 // A loudness, LUFS.
-#[derive(Drop)]
+#[derive(Clone, Copy)]
 pub struct Lufs(pub f64);
 
 // The loudness of silence, LUFS: no reading is below it, and one at it is no level.
 pub const SILENCE_LUFS: f64 = -100.0;
 
 // A reduction or another difference of levels, dB.
-#[derive(Drop)]
+#[derive(Clone, Copy)]
 pub struct Db(pub f64);
 
 // A finite value: sig * 2^exp units of 2^-1074, with 53 digits in sig, or fewer where exp is 0.
-#[derive(Drop)]
+#[derive(Clone, Copy)]
 pub struct Parts {
     pub negative: bool,
     pub sig: u64,
@@ -32,7 +32,7 @@ pub struct Parts {
 }
 
 // What an f64 is. An infinity is negative where its bool is true.
-#[derive(Drop)]
+#[derive(Clone, Copy)]
 pub enum Kind {
     NotANumber,
     Infinite(bool),

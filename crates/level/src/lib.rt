@@ -45,7 +45,7 @@ const WEIGHT: f64 = 1.0;
 const OFFSET: f64 = -0.691;
 
 // One channel, from sample to sample: its filters, the fast mean square, and the energy of the frame so far.
-#[derive(Drop)]
+#[derive(Clone, Copy)]
 pub struct Weighing {
     pub shelf: State,
     pub high_pass: State,
@@ -54,28 +54,28 @@ pub struct Weighing {
 }
 
 // The sums over the channels, each times its weight: the frame's power, and the fast mean square.
-#[derive(Drop)]
+#[derive(Clone, Copy)]
 pub struct Joint {
     pub power: f64,
     pub fast: f64,
 }
 
 // The powers of the latest frames, oldest first; the places after them are 0.
-#[derive(Drop)]
+#[derive(Clone, Copy)]
 pub struct Powers {
     pub count: usize,
     pub list: [f64; 300],
 }
 
 // The mean powers of 400 ms and of 3 s, or of all frames where there are fewer.
-#[derive(Drop)]
+#[derive(Clone, Copy)]
 pub struct Means {
     pub momentary: f64,
     pub short_term: f64,
 }
 
 // What one frame reads.
-#[derive(Drop)]
+#[derive(Clone, Copy)]
 pub struct Reading {
     pub power: f64, // the frame's weighted mean square
     pub momentary: Lufs,
@@ -84,7 +84,7 @@ pub struct Reading {
 }
 
 // The powers with this frame's, what they read, and whether every number that is stored, answered or handed to the logarithm is finite.
-#[derive(Drop)]
+#[derive(Clone, Copy)]
 pub struct Read {
     pub powers: Powers,
     pub reading: Reading,
@@ -92,7 +92,7 @@ pub struct Read {
 }
 
 // A strand's level: one channel.
-#[derive(Drop)]
+#[derive(Clone, Copy)]
 pub struct Level {
     pub shelf: State,
     pub high_pass: State,
@@ -101,7 +101,7 @@ pub struct Level {
 }
 
 // The level after a frame, what it reads, and whether every number that is stored, answered or handed to the logarithm is finite.
-#[derive(Drop)]
+#[derive(Clone, Copy)]
 pub struct Framed {
     pub level: Level,
     pub reading: Reading,

@@ -11,42 +11,42 @@ use detector::{Bands, Filters};
 use level::{FRAME, Weighing};
 
 // One of a chain's two strands.
-#[derive(Drop)]
+#[derive(Clone, Copy)]
 pub enum Side {
     Key,
     Bed,
 }
 
 // The level's filters of both strands.
-#[derive(Drop)]
+#[derive(Clone, Copy)]
 pub struct Weighed {
     pub key: Weighing,
     pub bed: Weighing,
 }
 
 // A strand's filters whose shelf rests, and those of the other strand.
-#[derive(Drop)]
+#[derive(Clone, Copy)]
 struct Beside {
     held: Weighing,
     other: Weighing,
 }
 
 // The detector's filters of both strands.
-#[derive(Drop)]
+#[derive(Clone, Copy)]
 pub struct Banded {
     pub key: Bands,
     pub bed: Bands,
 }
 
 // A number of each strand.
-#[derive(Drop)]
+#[derive(Clone, Copy)]
 pub struct Pair {
     pub key: f64,
     pub bed: f64,
 }
 
 // One section's state of both strands.
-#[derive(Drop)]
+#[derive(Clone, Copy)]
 pub struct States {
     pub z1: Pair,
     pub z2: Pair,
@@ -54,7 +54,7 @@ pub struct States {
 
 // What `Weighed` holds, the strands' numbers side by side. Where a loop's results lie so in memory, the compiler computes both strands with one
 // instruction; where each strand's numbers lie together, it joins the numbers of different sections instead.
-#[derive(Drop)]
+#[derive(Clone, Copy)]
 pub struct WeighedPairs {
     pub shelf: States,
     pub high_pass: States,
@@ -63,7 +63,7 @@ pub struct WeighedPairs {
 }
 
 // What `Banded` holds, likewise.
-#[derive(Drop)]
+#[derive(Clone, Copy)]
 pub struct BandedPairs {
     pub high_pass: States,
     pub low_pass: States,
@@ -75,7 +75,7 @@ pub struct BandedPairs {
 }
 
 // The filters of both kinds after a frame.
-#[derive(Drop)]
+#[derive(Clone, Copy)]
 pub struct Filtered {
     pub weighed: WeighedPairs,
     pub banded: BandedPairs,

@@ -5,7 +5,7 @@ ghost use Rattle.program.specs.Arguments.{option_of, request_of};
 
 use libc::{ENAMETOOLONG, STDERR_FILENO};
 
-#[derive(Drop)]
+#[derive(Clone, Copy)]
 pub enum Request {
     // Its work.
     Run,

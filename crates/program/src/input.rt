@@ -5,7 +5,7 @@ ghost use Rattle.program.specs.Input.{brought_by, got_of};
 use libc::{STDERR_FILENO, STDIN_FILENO};
 
 // What a read brings.
-#[derive(Drop)]
+#[derive(Clone, Copy)]
 pub enum Got {
     Bytes(usize),
     End,

@@ -17,7 +17,7 @@ use float::{Db, Lufs, SILENCE_LUFS};
 const FRAME_S: f64 = 0.01;
 
 // The duck's settings.
-#[derive(Drop)]
+#[derive(Clone, Copy)]
 pub struct Duck {
     pub enabled: bool,
     // How far the dialogue is to be above the bed, LU.
@@ -33,7 +33,7 @@ pub struct Duck {
 }
 
 // What one frame works from.
-#[derive(Drop)]
+#[derive(Clone, Copy)]
 pub struct Inputs {
     pub key_voice: bool,
     pub target_voice: bool,
@@ -44,7 +44,7 @@ pub struct Inputs {
 }
 
 // What is shown of a frame. Reductions are rounded to 0.01 dB, the ratio, LU, and the two readings to 0.1.
-#[derive(Drop)]
+#[derive(Clone, Copy)]
 pub struct RatioStatus {
     pub state: MixState,
     pub reduction_db: Db,
@@ -60,7 +60,7 @@ pub struct RatioStatus {
 }
 
 // A frame's answer, the loops after it, and whether all that it stores, answers or hands to a power is finite.
-#[derive(Drop)]
+#[derive(Clone, Copy)]
 pub struct Framed {
     pub reduction: Db,
     pub loops: Loops,

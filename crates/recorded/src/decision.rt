@@ -12,7 +12,7 @@ use vad::{Decision, SpeechPower, VadSettings};
 const GIVEN: usize = 8;
 
 // What has been compared, and the decision for the next frame.
-#[derive(Drop)]
+#[derive(Clone, Copy)]
 struct Stepped {
     r: Replay,
     decision: Decision,

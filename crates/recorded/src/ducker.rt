@@ -13,7 +13,7 @@ const SETTINGS: usize = 6;
 const INPUTS: usize = 6;
 
 // What has been compared, and the loops for the next frame.
-#[derive(Drop)]
+#[derive(Clone, Copy)]
 struct Stepped {
     r: Replay,
     loops: Loops,

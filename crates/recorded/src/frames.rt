@@ -15,7 +15,7 @@ const ANSWER: usize = 41;
 const ROOM: usize = 512;
 
 // What has been compared, the chain for the next call, and how many calls its list had.
-#[derive(Drop)]
+#[derive(Clone, Copy)]
 struct Run {
     r: Replay,
     chain: Chain,
@@ -23,7 +23,7 @@ struct Run {
 }
 
 // Two strands for frames that follow one another.
-#[derive(Drop)]
+#[derive(Clone, Copy)]
 struct Given {
     signals: [u64; SIGNALS],
     every: u64, // frames from one whole answer to the next

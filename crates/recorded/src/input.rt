@@ -12,7 +12,7 @@ const BUFFER_WORDS: usize = 512;
 const TEXT: usize = 32;
 
 // A file that is read through a buffer, which its reader lends to each call.
-#[derive(Drop)]
+#[derive(Clone, Copy)]
 pub struct Input {
     pub fd: i32, // negative: there is no such file
     at: usize, // the buffer's next word
@@ -22,7 +22,7 @@ pub struct Input {
 }
 
 // The next word, 0 where there is none, and the file after it.
-#[derive(Drop)]
+#[derive(Clone, Copy)]
 pub struct Got {
     pub word: u64,
     pub input: Input,

@@ -3,7 +3,7 @@ use super::input::BUFFER;
 use super::replay::Replay;
 use super::{decision, detector_frames, ducker, filter, level_frames, replay};
 
-#[derive(Drop)]
+#[derive(Clone, Copy)]
 pub enum Module {
     Filter,
     Level,

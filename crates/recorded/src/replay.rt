@@ -5,7 +5,7 @@ use super::print;
 // How many differing answers are shown.
 pub const SHOWN: u64 = 5;
 
-#[derive(Drop)]
+#[derive(Clone, Copy)]
 pub struct Replay {
     pub input: Input,
     lists: u64,

@@ -5,7 +5,7 @@ use super::{bits, signals};
 use level::FRAME;
 
 // A signal by its number, seed and scale.
-#[derive(Drop)]
+#[derive(Clone, Copy)]
 pub struct Signal {
     number: u64,
     seed: u64,

@@ -19,7 +19,7 @@ pub const IMAGE: usize = image::BYTES + 1;
 pub const PLACES: usize = 24;
 
 // What a call begins with.
-#[derive(Drop)]
+#[derive(Clone, Copy)]
 pub enum Letter {
     Frame,
     Settings,
@@ -31,13 +31,13 @@ pub enum Letter {
     End,
 }
 
-#[derive(Drop)]
+#[derive(Clone, Copy)]
 pub enum Word {
     Found(u64),
     End,
 }
 
-#[derive(Drop)]
+#[derive(Clone, Copy)]
 pub enum Count {
     Found(u32),
     End,

@@ -24,7 +24,7 @@ use libc::STDERR_FILENO;
 const TWO_32: u64 = 4294967296;
 
 // How a call ended.
-#[derive(Drop)]
+#[derive(Clone, Copy)]
 enum Ending {
     Answered,
     NoCall,
@@ -34,14 +34,14 @@ enum Ending {
 }
 
 // The chain after a call.
-#[derive(Drop)]
+#[derive(Clone, Copy)]
 struct Step {
     chain: Chain,
     ending: Ending,
 }
 
 // How the list ended, and the number of the call at which it did, from 1.
-#[derive(Drop)]
+#[derive(Clone, Copy)]
 struct Stopped {
     ending: Ending,
     call: u64,

@@ -16,7 +16,7 @@ const TWO: u64 = 4611686018427387904; // the bits of 2.0, 1024 * 2^52
 const HALF: u64 = 67108864; // 2^26
 
 // The root of the digits that were brought down, and what they have beyond its square.
-#[derive(Drop)]
+#[derive(Clone, Copy)]
 struct Part {
     root: u64,
     rem: u64,

@@ -23,14 +23,14 @@ use ratio::Duck;
 use vad::VadSettings;
 
 // From low to high, both ends allowed.
-#[derive(Drop)]
+#[derive(Clone, Copy)]
 pub struct Range {
     pub low: f64,
     pub high: f64,
 }
 
 // The range of each setting. target_lu and overvoice_lu share one.
-#[derive(Drop)]
+#[derive(Clone, Copy)]
 pub struct Ranges {
     pub threshold: Range,
     pub hold_ms: Range,
@@ -91,7 +91,7 @@ const IMAGE_RANGES: Ranges = Ranges {
 };
 
 // All settings: of the key strand, of the bed strand, and of the ducker.
-#[derive(Drop)]
+#[derive(Clone, Copy)]
 pub struct Settings {
     pub key: VadSettings,
     pub bed: VadSettings,

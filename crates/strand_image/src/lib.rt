@@ -50,14 +50,14 @@ const COUNTS: u64 = 0x1_0000_0000; // onsets and offsets are below it
 const HOLD: u64 = 6001; // frames: a hold is below it
 
 // The open window of the noise floor: its minimum and its frames.
-#[derive(Drop)]
+#[derive(Clone, Copy)]
 struct Window {
     least: f64,
     frames: usize,
 }
 
 // The part of a decision that a rule joins: onsets minus offsets equals active.
-#[derive(Drop)]
+#[derive(Clone, Copy)]
 struct Counts {
     active: bool,
     probability: f64,

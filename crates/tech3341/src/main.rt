@@ -94,21 +94,21 @@ const AMPLITUDES: [f32; 20] = [
 ];
 
 // Which of the two readings a requirement is of.
-#[derive(Drop)]
+#[derive(Clone, Copy)]
 enum Window {
     Momentary,
     ShortTerm,
 }
 
 // The least and the greatest of some readings, LUFS.
-#[derive(Drop)]
+#[derive(Clone, Copy)]
 struct Extremes {
     least: f64,
     greatest: f64,
 }
 
 // A level, and the extremes of what it read once `unread` frames have passed.
-#[derive(Drop)]
+#[derive(Clone, Copy)]
 struct Meter {
     level: Level,
     unread: u64,

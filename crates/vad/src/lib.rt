@@ -29,7 +29,7 @@ use level::{Level, Reading};
 const ONSET_LIMIT: u64 = 4294967295;
 
 // A strand's settings: the threshold of the probability, the hold, ms, and the loudness below which nothing is speech.
-#[derive(Drop)]
+#[derive(Clone, Copy)]
 pub struct VadSettings {
     pub threshold: f64,
     pub hold_ms: f64,
@@ -37,21 +37,21 @@ pub struct VadSettings {
 }
 
 // The mean power of the frames with speech (1 s time constant); none before the first since a reset.
-#[derive(Drop)]
+#[derive(Clone, Copy)]
 pub enum SpeechPower {
     Unset,
     At(f64),
 }
 
 // The same as shown, dBFS.
-#[derive(Drop)]
+#[derive(Clone, Copy)]
 pub enum SpeechLevel {
     Unset,
     Dbfs(f64),
 }
 
 // Whether speech is on, the smoothed probability, onsets and offsets so far, the frames left in the hold, and the speech power.
-#[derive(Drop)]
+#[derive(Clone, Copy)]
 pub struct Decision {
     pub active: bool,
     pub probability: f64,
@@ -62,7 +62,7 @@ pub struct Decision {
 }
 
 // What is answered of a strand after a frame.
-#[derive(Drop)]
+#[derive(Clone, Copy)]
 pub struct VadState {
     pub speech_active: bool,
     pub speech_probability: f64,
@@ -76,7 +76,7 @@ pub struct VadState {
     pub features: Features,
 }
 
-#[derive(Drop)]
+#[derive(Clone, Copy)]
 pub struct Strand {
     pub level: Level,
     pub detector: FeatureDetector,
@@ -85,7 +85,7 @@ pub struct Strand {
 
 // The strand after a frame, its loudness, and what is answered. `finite` says that every number that is stored, answered, or handed to the
 // logarithm, a power, the root or the narrowing is finite; `full` that the frame takes the onsets past their limit.
-#[derive(Drop)]
+#[derive(Clone, Copy)]
 pub struct Framed {
     pub strand: Strand,
     pub reading: Reading,
