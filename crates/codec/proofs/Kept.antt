@@ -97,8 +97,8 @@ fields-finite false b s v h = h
 
 of_fields-finite : (f : Format) (s : Bool) (x t : ℕ) → finite (of_fields f s x t) ≡ not (eqb x (ones f))
 unfolding of_fields
-of_fields-finite binary32 s zero t = odd-finite _ s t 0 _
-of_fields-finite binary64 s zero t = odd-finite _ s t 0 _
+of_fields-finite binary32 s zero t = odd-finite (prec binary32) s t 0 (low binary32)
+of_fields-finite binary64 s zero t = odd-finite (prec binary64) s t 0 (low binary64)
 of_fields-finite binary32 s (suc x) t = fields-finite (eqb (suc x) (ones binary32)) (eqb t 0) s (odd (prec binary32) s (hid binary32 + t) x (low binary32)) (odd-finite (prec binary32) s (hid binary32 + t) x (low binary32))
 of_fields-finite binary64 s (suc x) t = fields-finite (eqb (suc x) (ones binary64)) (eqb t 0) s (odd (prec binary64) s (hid binary64 + t) x (low binary64)) (odd-finite (prec binary64) s (hid binary64 + t) x (low binary64))
 

@@ -1,0 +1,12 @@
+-- `codec::put_list32` meets its contract: the count is laid, and the words of the first k numbers behind it.
+use Prim.Native.Nat.{◌-◌, ◌≤◌}
+use lib.ListN.{length}
+use lib.Ieee.{binary32, to_bits}
+use Rattle.codec.proofs.Places.{Put}
+use Rattle.codec.proofs.put_list32.Given as goal
+
+abbrev pub invariant-loop-k : goal.invariant-loop-k
+invariant-loop-k l = (l.k ≤ length l.v) × Put (to_bits binary32) l.v l.initial.w l.at l.k l.w
+
+abbrev pub decreases-loop-k : goal.decreases-loop-k
+decreases-loop-k l = length l.v - l.k
