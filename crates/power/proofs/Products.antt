@@ -2,7 +2,7 @@
 use mathlib.Core.Path.{◌≡◌, refl, sym, ap, ap₂, ◌∙◌, subst}
 use mathlib.Core.Bool.{Bool, true, false, not, cond}
 use mathlib.Core.List.{List, [], ◌∷◌}
-use Prim.Native.Nat.{ℕ, suc, ◌+◌, ◌-◌, ◌*◌, ◌/◌, ◌%◌, ◌^◌, ◌≤◌, ◌<◌, zero-le}
+use Prim.Native.Nat.{ℕ, suc, ◌+◌, ◌*◌, ◌/◌, ◌%◌, ◌^◌, ◌≤◌, ◌<◌, zero-le}
 use native.Mathlib.Nat.{le_trans, le_of_eq, le_of_lt, lt_of_lt_of_le, lt_of_le_of_lt, lt_of_not-le, not-le_of_lt, mul_assoc, mul_comm, mul-one, one-mul, mul-mul-mul_comm, mul_right_comm, mul_left_comm, pow-suc, pow-zero, one-le-pow, mul-le-mul, mul-le-mul_left, mul-le-mul_right, mul-lt-mul_of_pos_right, mul-lt-mul_of_pos_left, pow-le-pow_left, two-pow-succ, le_of_mul-le-mul_right, lt_of_mul-lt-mul_right, zero-mul, add-mul, mod-one, mul-add, le_of_suc-le-suc, zero-add, mod-eq_of_lt, le_refl}
 use native.Mathlib.Decide.{dec_le}
 use native.Mathlib.Numerals.{add-one, one-add}
