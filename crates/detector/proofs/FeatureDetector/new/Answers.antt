@@ -1,0 +1,13 @@
+-- `FeatureDetector::new` meets its contract.
+use Rattle.std.proofs.Common.{sym}
+use Rattle.detector.specs.Detector.{}
+use Rattle.detector.proofs.FeatureDetector.new.Goals as goal
+
+pub returns : goal.returns
+returns c =
+    simp (
+      sym c.new.ensures,
+      sym c.new-2.ensures,
+      sym c.new-3.ensures,
+      sym c.new-4.ensures,
+    )
