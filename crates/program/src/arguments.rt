@@ -3,7 +3,9 @@ ghost use Rattle.std.specs.Prelude.{◌≡◌};
 ghost use Rattle.io.specs.Counts.{IsPrefixLen};
 ghost use Rattle.program.specs.Arguments.{option_of, request_of};
 
-use libc::{ENAMETOOLONG, STDERR_FILENO};
+use std::env::FillError;
+use std::io::Write;
+use std::rt::Env;
 
 #[derive(Clone, Copy)]
 pub enum Request {
@@ -21,16 +23,27 @@ pub enum Request {
     Unknown,
 }
 
+// How many words a program was started with, its own name among them.
+pub fn count(env: &impl Env) -> usize {
+    let mut start = [0u8; 1];
+    for i in 0..usize::MAX {
+        if let Err(FillError::NotPresent) = env.arg(i, &mut start) {
+            return i;
+        }
+    }
+    usize::MAX
+}
+
 // Puts argument i at the start of `word`, and answers how many bytes it has there: 0 where there is none, and of one that is too long as many as
 // have room.
-pub fn get(i: usize, word: &mut [u8]) -> usize
+pub fn get(env: &impl Env, i: usize, word: &mut [u8]) -> usize
     ensures { IsPrefixLen result word.new }
 {
-    let n = os::arg(i, word);
-    if os::errno() == ENAMETOOLONG {
-        return word.len();
+    match env.arg(i, word) {
+        Ok(n) => n,
+        Err(FillError::TooLong) => word.len(),
+        Err(FillError::NotPresent) => 0,
     }
-    n
 }
 
 // What the option asks for that is the first of `count` words, the program's name among them.
@@ -66,19 +79,19 @@ pub fn asked(count: usize, first: &[u8], name: &[u8]) -> Request
     Request::Unknown
 }
 
-// Says on standard error what is wrong with a word, behind the program's name.
-pub fn refuse(program: &[u8], why: &[u8], word: &[u8]) {
-    io::write_all(STDERR_FILENO, program);
-    io::write_all(STDERR_FILENO, b": ");
-    io::write_all(STDERR_FILENO, why);
-    io::write_all(STDERR_FILENO, b" '");
-    io::write_all(STDERR_FILENO, word);
-    io::write_all(STDERR_FILENO, b"'");
+// Says what is wrong with a word, behind the program's name: on standard error, which is `errors`. What can't be written is let go.
+pub fn refuse<E: Write>(errors: &mut E, program: &[u8], why: &[u8], word: &[u8]) {
+    let _ = errors.write_all(program);
+    let _ = errors.write_all(b": ");
+    let _ = errors.write_all(why);
+    let _ = errors.write_all(b" '");
+    let _ = errors.write_all(word);
+    let _ = errors.write_all(b"'");
 }
 
 // Ends such a line with where to read more.
-pub fn hint(program: &[u8]) {
-    io::write_all(STDERR_FILENO, b" (");
-    io::write_all(STDERR_FILENO, program);
-    io::write_all(STDERR_FILENO, b" --help says what it takes)\n");
+pub fn hint<E: Write>(errors: &mut E, program: &[u8]) {
+    let _ = errors.write_all(b" (");
+    let _ = errors.write_all(program);
+    let _ = errors.write_all(b" --help says what it takes)\n");
 }

@@ -1,16 +1,43 @@
-// What is said where standard output can't be written.
-use libc::{EAGAIN, STDERR_FILENO};
+// Writes of standard output, and what is said where one fails.
+use super::reason;
+use std::io;
+use std::io::{ErrorKind, Write};
 
-// Says on standard error why the last write failed, behind the program's name. A non-blocking output that is full is such a failure.
-pub fn complain(program: &[u8]) {
-    let full = os::errno() == EAGAIN;
-    io::write_all(STDERR_FILENO, program);
-    if full {
-        io::write_all(
-            STDERR_FILENO,
-            b": cannot write standard output: it is non-blocking and full\n",
-        );
+// Standard output or another writer, and why the last write that failed did.
+#[derive(Drop)]
+pub struct Output<W> {
+    to: W,
+    failure: Option<io::Error>,
+}
+
+impl<W: Write> Output<W> {
+    pub fn new(to: W) -> Output<W> {
+        Output { to, failure: None }
+    }
+
+    // Writes all of the bytes, and answers whether that could be done.
+    pub fn write(&mut self, bytes: &[u8]) -> bool {
+        match self.to.write_all(bytes) {
+            Ok(()) => true,
+            Err(e) => {
+                self.failure = Some(e);
+                false
+            }
+        }
+    }
+}
+
+// Says why the last write failed, behind the program's name: on standard error, which is `errors`. A non-blocking output that is full is such a
+// failure.
+pub fn complain<W, E: Write>(output: &Output<W>, errors: &mut E, program: &[u8]) {
+    let _ = errors.write_all(program);
+    let why = match output.failure {
+        Some(e) => e,
+        None => return,
+    };
+    if why.kind() == ErrorKind::WouldBlock {
+        let _ = errors.write_all(b": cannot write standard output: it is non-blocking and full\n");
     } else {
-        os::fail(b": cannot write standard output");
+        reason::tell(errors, b": cannot write standard output", &why);
     }
 }
