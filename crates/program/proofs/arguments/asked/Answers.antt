@@ -1,6 +1,5 @@
 -- `arguments::asked` meets its contract, test by test.
 use mathlib.Core.Path.{sym}
-use borrow.Author.Rules.{rules}
 use borrow.Author.Tests.{lt-ltb, le-ltb}
 use Rattle.program.specs.Arguments.{request_of}
 use Rattle.program.proofs.arguments.asked.Goals as goal
