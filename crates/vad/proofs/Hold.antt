@@ -1,5 +1,5 @@
 -- At most 6,000 frames of hold for at most 60,000 ms.
-use Rattle.std.proofs.Common.{◌≡◌, ℕ, ◌+◌, ◌*◌, ◌^◌, ◌<◌, ◌≤◌, Bool, true, false, ◌&&◌, ◌||◌, T, eqb, ltb, leb, pos, sym, refl, true≢false, le_trans, le_of_eq, le_of_suc-le-suc, le_of_lt, div-lt_iff_lt-mul, mul-one, arith, le→leb, eqb→eq, ltb→lt}
+use Rattle.std.proofs.Common.{◌≡◌, ℕ, ◌+◌, ◌*◌, ◌^◌, ◌<◌, ◌≤◌, Bool, true, false, ◌&&◌, ◌||◌, T, eqb, ltb, pos, sym, refl, true≢false, le_trans, le_of_eq, le_of_suc-le-suc, le_of_lt, div-lt_iff_lt-mul, mul-one, arith, le→leb, eqb→eq, ltb→lt}
 use lib.Ieee.{Float, nan, inf, fin, binary64, up, down, round, le, div, of_bits, of_int, to_unsigned, in_float}
 use lib.Ieee.Fits.{down_pos}
 use lib.Ieee.Order.{round_mono}

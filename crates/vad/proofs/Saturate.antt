@@ -1,5 +1,5 @@
 -- A float `as u32`, which stops at the ends: by a test at each.
-use Rattle.std.proofs.Common.{◌≡◌, ◌+◌, ◌-◌, ◌*◌, ◌/◌, ◌<◌, ◌≤◌, true, false, T, pos, sym, refl, true≢false, div-lt_iff_lt-mul, le-div_iff_mul-le, mul-one, arith, lt→ltb, ltb-false, ltb-true}
+use Rattle.std.proofs.Common.{◌≡◌, ◌+◌, ◌*◌, ◌/◌, ◌<◌, ◌≤◌, true, false, T, pos, sym, refl, true≢false, div-lt_iff_lt-mul, le-div_iff_mul-le, mul-one, arith, lt→ltb, ltb-false, ltb-true}
 use lib.Ieee.{Float, nan, inf, fin, binary64, up, down, lt, of_bits, to_unsigned}
 use lib.Ieee.Fits.{down_pos}
 use Rattle.float.specs.Arithmetic.{zero64}

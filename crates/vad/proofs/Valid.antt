@@ -1,5 +1,5 @@
 -- A fresh strand is valid; a reset keeps that, and so does a frame whose numbers are all finite and which doesn't fill the onsets.
-use Rattle.std.proofs.Common.{◌≡◌, ℕ, ◌+◌, ◌-◌, ◌%◌, ◌^◌, ◌<◌, ◌≤◌, Bool, true, false, cond, ◌&&◌, T, eqb, List, get_or, sym, refl, ◌∙◌, mod-eq_of_lt, arith, leb-false}
+use Rattle.std.proofs.Common.{◌≡◌, ℕ, ◌+◌, ◌%◌, ◌^◌, ◌<◌, ◌≤◌, Bool, true, false, cond, ◌&&◌, T, eqb, List, get_or, sym, refl, ◌∙◌, mod-eq_of_lt, arith, leb-false}
 use lib.Ieee.{Float, nan, binary64, fits, lt, le, neg, mul, is_nan, of_bits}
 use lib.Ieee.Fits.{add-fits, cond-fits, nan-fits, round-fits, and_l, and_r}
 use lib.Ieee.Scale.{finite}
