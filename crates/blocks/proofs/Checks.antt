@@ -1,5 +1,5 @@
 -- Laws of checks: one word more, what two words in one place do to a check, and the first bad block.
-use Rattle.std.proofs.Common.{◌≡◌, ℕ, zero, suc, ◌+◌, ◌-◌, ◌*◌, ◌/◌, ◌%◌, ◌^◌, ◌<◌, ◌≤◌, Bool, true, false, cond, eqb, List, [], ◌∷◌, ◌++◌, sym, refl, ap, ◌∙◌, le_refl, le_of_suc-le-suc, add-zero, div-add-mod', add-one, arith, eq-eqb, ne_eqb}
+use Rattle.std.proofs.Common.{◌≡◌, ℕ, zero, suc, ◌+◌, ◌-◌, ◌*◌, ◌/◌, ◌%◌, ◌^◌, ◌<◌, ◌≤◌, Bool, true, false, cond, eqb, List, [], ◌∷◌, ◌++◌, sym, refl, ap, ◌∙◌, le_refl, le_of_suc-le-suc, add-zero, div-add-mod', add-one, arith, eq-eqb, ne_eqb, ltb, ltb-true, ltb-false}
 use native.Mathlib.Decide.{ℕ_discrete}
 use Rattle.blocks.specs.Lists.{table}
 use Rattle.blocks.specs.Words.{block_words, checked_words, word_at, rotated, mixed, check_from, check_of, holds, first_from}
@@ -204,3 +204,11 @@ module _ (b : List ℕ) (k : ℕ) where
 
     pub turn_bad : checked_words ≤ j → j < block_words → (c ≡ w → ⊥) → holds b k ≡ false
     turn_bad h l q = whole h l ∙ ne_eqb c w q
+
+    -- one word more, whichever it is
+    pub turn_next : (c' : ℕ) → j < block_words → (j < checked_words → c' ≡ mixed c w) → (checked_words ≤ j → c ≡ w) → Turn b k c' (j + 1)
+    turn_next c' l m q = go (ltb j checked_words) refl
+      where
+        go : (z : Bool) → ltb j checked_words ≡ z → Turn b k c' (j + 1)
+        go true h = let g = ltb-true j checked_words h in turn_mix c' g (m g)
+        go false h = let g = ltb-false j checked_words h in turn_end c' g l (q g)

@@ -1,9 +1,9 @@
 -- `blocks::first_bad` meets its contract: from each block on, the first bad one is that of the whole.
 use Rattle.std.proofs.Common.{sym, ◌∙◌, arith}
 use Rattle.blocks.specs.Words.{holds, first_bad}
-use Rattle.blocks.proofs.Checks.{turn-start, turn_mix, turn_end, turn_bad, from_start, past, here, at-end}
+use Rattle.blocks.proofs.Checks.{turn-start, turn_next, turn_bad, from_start, past, here, at-end}
+use Rattle.std.proofs.lemmas.Grind.{common_steps}
 use Rattle.blocks.proofs.first_bad.Goals as goal
-use Rattle.blocks.proofs.first_bad.Goals.{then-j-lt-CHECKED_WORDS, else-j-lt-CHECKED_WORDS+else-check-w}
 
 pub blocks-2-init : goal.blocks-2-init
 unfolding first_bad
@@ -13,13 +13,7 @@ pub loop-j-init : goal.loop-j-init
 loop-j-init c = turn-start _ _
 
 pub loop-j-preserved : goal.loop-j-preserved
-loop-j-preserved c =
-    let at = c.loop-j in
-    let r = c.whole8-w in
-    elim c.if-j-lt-CHECKED_WORDS.branch [
-      | then-j-lt-CHECKED_WORDS w ↦ turn_mix _ _ r.result at.invariant r.ensures _ w.if-j-lt-CHECKED_WORDS.true (w.check-is ∙ w.mixed-check.ensures)
-      | else-j-lt-CHECKED_WORDS+else-check-w w ↦ turn_end _ _ r.result at.invariant r.ensures _ w.if-j-lt-CHECKED_WORDS.false c.loop-j-test.true w.if-check-w.false
-    ]
+loop-j-preserved c = turn_next _ _ c.whole8-w.result c.loop-j.invariant c.whole8-w.ensures _ c.loop-j-test.true (λ h. grind (arith, common_steps)) (λ h. grind (arith, common_steps))
 
 pub blocks-2-preserved : goal.blocks-2-preserved
 blocks-2-preserved c = (omega arith, sym (past _ _ _ (omega arith) (c.loop-j.invariant.held (omega arith))) ∙ c.blocks-2.invariant.1)
@@ -31,5 +25,5 @@ returns-after-blocks-2 c =
 
 pub returns-then-check-w : goal.returns-then-check-w
 returns-then-check-w c =
-    sym (here _ _ _ (omega arith) (turn_bad _ _ c.whole8-w.result c.loop-j.invariant c.whole8-w.ensures c.if-j-lt-CHECKED_WORDS.false c.loop-j-test.true c.if-check-w.true))
+    sym (here _ _ _ (omega arith) (turn_bad _ _ c.whole8-w.result c.loop-j.invariant c.whole8-w.ensures (omega arith) c.loop-j-test.true c.if-check-w.true))
     ∙ c.blocks-2.invariant.1
