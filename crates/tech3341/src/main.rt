@@ -9,7 +9,7 @@ ghost use Rattle.std.specs.Prelude.{◌<◌, ◌≤◌};
 
 use float::Lufs;
 use level::{FRAME, Level};
-use libc::STDOUT_FILENO;
+use std::io;
 
 const TOLERANCE: f64 = 0.1; // LU
 
@@ -242,18 +242,10 @@ impl Meter {
     }
 }
 
-fn print(text: &[u8]) {
-    io::write_all(STDOUT_FILENO, text);
-}
-
-fn print_number(n: u64) {
-    io::print_decimal(STDOUT_FILENO, n);
-}
-
-fn print_window(w: Window) {
+fn letter(w: Window) -> &'static str {
     match w {
-        Window::Momentary => print(b", M"),
-        Window::ShortTerm => print(b", S"),
+        Window::Momentary => "M",
+        Window::ShortTerm => "S",
     }
 }
 
@@ -278,110 +270,106 @@ fn met(lufs: f64, below: u64) -> bool {
 }
 
 // The end of a line: what was read, what was expected, and whether that is met.
-fn print_reading(lufs: f64, below: u64)
+fn print_reading(rt: &impl Print, lufs: f64, below: u64) -> io::Result<()>
     requires { below < 39 }
 {
     let t = tenths(lufs);
-    print(b" -");
-    print_number(t / 10);
-    print(b".");
-    print_number(t % 10);
-    print(b" LUFS, expected -");
-    print_number(below + 3);
-    print(b".01 within 0.1 LU: ");
+    let whole = t / 10;
+    let tenth = t % 10;
+    let expected = below + 3;
+    print!(rt; " -{whole}.{tenth} LUFS, expected -{expected}.01 within 0.1 LU: ")?;
     if met(lufs, below) {
-        print(b"met\n");
+        print!(rt; "met\n")
     } else {
-        print(b"missed\n");
+        print!(rt; "missed\n")
     }
 }
 
-fn print_case(case: u64) {
-    print(b"case ");
-    print_number(case);
-}
-
 // A reading that is to stay the same.
-fn constant(case: u64, m: Meter, w: Window, below: u64)
+fn constant(rt: &impl Print, case: u64, m: Meter, w: Window, below: u64) -> io::Result<()>
     requires { below < 39 }
 {
     let e = m.extremes(w);
-    print_case(case);
-    print_window(w);
-    print(b", least");
-    print_reading(e.least, below);
-    print_case(case);
-    print_window(w);
-    print(b", greatest");
-    print_reading(e.greatest, below);
+    let window = letter(w);
+    print!(rt; "case {case}, {window}, least")?;
+    print_reading(rt, e.least, below)?;
+    print!(rt; "case {case}, {window}, greatest")?;
+    print_reading(rt, e.greatest, below)
 }
 
 // The greatest reading of segment i.
-fn greatest(case: u64, m: Meter, w: Window, i: u64, below: u64)
+fn greatest(rt: &impl Print, case: u64, m: Meter, w: Window, i: u64, below: u64) -> io::Result<()>
     requires { below < 39 }
 {
     let e = m.extremes(w);
-    print_case(case);
-    print(b", i = ");
-    print_number(i);
-    print_window(w);
-    print(b", greatest");
-    print_reading(e.greatest, below);
+    let window = letter(w);
+    print!(rt; "case {case}, i = {i}, {window}, greatest")?;
+    print_reading(rt, e.greatest, below)
 }
 
 // Cases 1 and 2: a tone of 20 s. M and S are constant from the first frame on: while there are fewer frames than a window has, it has those.
-fn steady(case: u64, below: u64)
+fn steady(rt: &impl Print, case: u64, below: u64) -> io::Result<()>
     requires { (19 ≤ below) × (below < 39) }
 {
     let m = Meter::new(0).play(amplitude(below), 20 * SECOND);
-    constant(case, m, Window::Momentary, below);
-    constant(case, m, Window::ShortTerm, below);
+    constant(rt, case, m, Window::Momentary, below)?;
+    constant(rt, case, m, Window::ShortTerm, below)
 }
 
 // Cases 9 and 12: a tone at -20 dBFS and then at -30 dBFS, over and over. The reading is constant after `unread` frames.
-fn alternating(case: u64, w: Window, unread: u64, loud: u64, soft: u64, times: u64) {
+fn alternating(
+    rt: &impl Print,
+    case: u64,
+    w: Window,
+    unread: u64,
+    loud: u64,
+    soft: u64,
+    times: u64,
+) -> io::Result<()> {
     let mut m = Meter::new(unread);
     let mut i = 0;
     while i < times {
         m = m.play(amplitude(20), loud).play(amplitude(30), soft);
         i += 1;
     }
-    constant(case, m, w, 23);
+    constant(rt, case, m, w, 23)
 }
 
 // Cases 10 and 13, for meters of files: silence for i twentieths of the window, a tone of the window's length at -23 dBFS, silence of 1 s.
 // Each file has a fresh level.
 // The document has 20 files. Here i goes from 0 to 20, so that they are among these whether it counts from 0 or from 1.
-fn files(case: u64, w: Window) {
+fn files(rt: &impl Print, case: u64, w: Window) -> io::Result<()> {
     let mut i = 0;
     while i <= 20 {
         let m = Meter::new(0).burst(w, i, 23).play(0.0, SECOND);
-        greatest(case, m, w, i, 23);
+        greatest(rt, case, m, w, i, 23)?;
         i += 1;
     }
+    Ok(())
 }
 
 // Cases 11 and 14, for live meters: one level hears 20 segments of twice the window's length, with the silence and the tone as above, then silence.
 // The document expects -38 to -19 of them, so the tone of segment i is taken to be at i - 38 dBFS, with i from 0 to 19.
 // (Were i counted from 1 and the first tone at -38 dBFS all the same, each tone would come a twentieth of the window later.)
-fn live(case: u64, w: Window) {
+fn live(rt: &impl Print, case: u64, w: Window) -> io::Result<()> {
     let frames = twentieth(w);
     let mut m = Meter::new(0);
     let mut i = 0;
     while i < 20 {
         m = m.again().burst(w, i, 38 - i).silent(frames, 20 - i);
-        greatest(case, m, w, i, 38 - i);
+        greatest(rt, case, m, w, i, 38 - i)?;
         i += 1;
     }
+    Ok(())
 }
 
-fn main() {
-    steady(1, 23);
-    steady(2, 33);
-    alternating(9, Window::ShortTerm, 3 * SECOND, 134, 166, 5);
-    files(10, Window::ShortTerm);
-    live(11, Window::ShortTerm);
-    alternating(12, Window::Momentary, SECOND, 18, 22, 25);
-    files(13, Window::Momentary);
-    live(14, Window::Momentary);
+fn main(rt: HostRuntime) -> io::Result<()> {
+    steady(&rt, 1, 23)?;
+    steady(&rt, 2, 33)?;
+    alternating(&rt, 9, Window::ShortTerm, 3 * SECOND, 134, 166, 5)?;
+    files(&rt, 10, Window::ShortTerm)?;
+    live(&rt, 11, Window::ShortTerm)?;
+    alternating(&rt, 12, Window::Momentary, SECOND, 18, 22, 25)?;
+    files(&rt, 13, Window::Momentary)?;
+    live(&rt, 14, Window::Momentary)
 }
