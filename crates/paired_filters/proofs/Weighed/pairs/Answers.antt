@@ -1,0 +1,10 @@
+-- `Weighed::pairs` meets its contract: section by section.
+use mathlib.Core.Path.{sym}
+use Rattle.paired_filters.proofs.Weighed.pairs.Goals as goal
+
+pub returns : goal.returns
+returns c =
+    simp (
+      sym c.joined.ensures,
+      sym c.joined-2.ensures,
+    )
