@@ -1,0 +1,16 @@
+-- `strand_image::get_power` meets its contract: a value where the flag is 1.
+use mathlib.Core.Path.{sym, ap, ◌∙◌}
+use borrow.Author.Tests.{eq-eqb, ne_eqb}
+use Rattle.codec.specs.Codec.{maybe_of}
+use Rattle.strand_image.specs.Strand.{power}
+use Rattle.vad.specs.declared.SpeechPower.{SpeechPower}
+use Rattle.vad.specs.declared.SpeechPower.TheVariants.{At}
+use Rattle.strand_image.proofs.get_power.Goals as goal
+
+pub returns-then-get-eq1 : goal.returns-then-get-eq1
+unfolding power maybe_of
+returns-then-get-eq1 c = rw (eq-eqb _ _ (sym c.get.ensures ∙ c.if-get-eq1.true)) (ap {B = SpeechPower} At c.get64.ensures)
+
+pub returns : goal.returns
+unfolding power maybe_of
+returns c = rw (ne_eqb _ _ (λ e. c.if-get-eq1.false (c.get.ensures ∙ e)))

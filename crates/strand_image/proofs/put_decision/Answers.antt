@@ -1,0 +1,15 @@
+-- `strand_image::put_decision` meets its contract: one run of words after another.
+use native.Mathlib.Omega.{arith}
+use Rattle.codec.proofs.Runs.{then, single}
+use Rattle.strand_image.specs.Strand.{decision, counts}
+use Rattle.strand_image.proofs.put_decision.Goals as goal
+
+pub returns : goal.returns
+unfolding decision counts
+returns c =
+    then (single c.put_flag.ensures) (omega arith)
+    (then (single c.put64.ensures) (omega arith)
+    (then (single c.put.ensures) (omega arith)
+    (then (single c.put-2.ensures) (omega arith)
+    (then (single c.put-3.ensures) (omega arith)
+    c.put_power.ensures))))
