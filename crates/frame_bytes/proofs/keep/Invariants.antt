@@ -1,0 +1,20 @@
+-- `keep` meets its contract: the first k of the bytes that are left are laid, and those from place k on are as they were.
+use Prim.Native.Nat.{ℕ, ◌-◌, ◌*◌, ◌≤◌, min}
+use native.Mathlib.Omega.{arith}
+use mathlib.Core.Path.{◌≡◌, refl, ap, ◌∙◌}
+use lib.ListN.{length, take, drop}
+use borrow.Author.Rules.{rules}
+use Rattle.blocks.specs.Lists.{laid, Laid}
+use Rattle.blocks.proofs.Lists.{none_yet, turn-first, finish, laid-length}
+use Rattle.detector.proofs.Lay.{rest-turn}
+use Rattle.frame_bytes.proofs.Sizes.{place-most}
+use Rattle.frame_bytes.proofs.Kept.{kept_byte, kept-length}
+use Rattle.frame_bytes.specs.Bytes.{kept_of}
+use Rattle.frame_bytes.proofs.keep.Given as goal
+
+abbrev pub invariant-loop-k : goal.invariant-loop-k
+invariant-loop-k l =
+    (l.k ≤ l.moved) × (l.moved ≡ min l.left (length l.initial.buffer - l.first)) × Laid l.initial.buffer 0 (take l.k (take l.left (drop l.first l.initial.buffer))) l.buffer × (drop l.k l.buffer ≡ drop l.k l.initial.buffer)
+
+abbrev pub decreases-loop-k : goal.decreases-loop-k
+decreases-loop-k l = l.moved - l.k
