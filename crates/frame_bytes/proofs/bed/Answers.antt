@@ -2,7 +2,6 @@
 use Prim.Native.Nat.{◌+◌, ◌*◌}
 use native.Mathlib.Omega.{arith}
 use mathlib.Core.Path.{◌∙◌}
-use borrow.Author.Rules.{rules}
 use Rattle.sequence.specs.History.{laid}
 use Rattle.frame_bytes.specs.Bytes.{bed_samples, samples_at}
 use Rattle.frame_bytes.proofs.Sizes.{place-most}

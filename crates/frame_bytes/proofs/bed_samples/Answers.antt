@@ -2,7 +2,6 @@
 use mathlib.Core.Path.{ap}
 use Prim.Native.Nat.{ℕ, ◌*◌}
 use native.Mathlib.Omega.{arith}
-use borrow.Author.Rules.{rules}
 use Rattle.frame_bytes.specs.Bytes.{bed_samples}
 use Rattle.frame_bytes.proofs.bed_samples.Goals as goal
 

@@ -1,10 +1,9 @@
 -- `keep` meets its contract: the first k of the bytes that are left are laid, and those from place k on are as they were.
-use Prim.Native.Nat.{ℕ, ◌-◌, ◌*◌, ◌≤◌, min}
+use Prim.Native.Nat.{ℕ, ◌-◌, ◌*◌, min}
 use native.Mathlib.Omega.{arith}
-use mathlib.Core.Path.{◌≡◌, refl, ap, ◌∙◌}
-use lib.ListN.{length, take, drop}
-use borrow.Author.Rules.{rules}
-use Rattle.blocks.specs.Lists.{laid, Laid}
+use mathlib.Core.Path.{refl, ap, ◌∙◌}
+use lib.ListN.{take, drop}
+use Rattle.blocks.specs.Lists.{laid}
 use Rattle.blocks.proofs.Lists.{none_yet, turn-first, finish, laid-length}
 use Rattle.detector.proofs.Lay.{rest-turn}
 use Rattle.frame_bytes.proofs.Sizes.{place-most}

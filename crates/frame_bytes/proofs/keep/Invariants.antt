@@ -1,15 +1,8 @@
 -- `keep` meets its contract: the first k of the bytes that are left are laid, and those from place k on are as they were.
-use Prim.Native.Nat.{ℕ, ◌-◌, ◌*◌, ◌≤◌, min}
-use native.Mathlib.Omega.{arith}
-use mathlib.Core.Path.{◌≡◌, refl, ap, ◌∙◌}
+use Prim.Native.Nat.{◌-◌, ◌≤◌, min}
+use mathlib.Core.Path.{◌≡◌}
 use lib.ListN.{length, take, drop}
-use borrow.Author.Rules.{rules}
-use Rattle.blocks.specs.Lists.{laid, Laid}
-use Rattle.blocks.proofs.Lists.{none_yet, turn-first, finish, laid-length}
-use Rattle.detector.proofs.Lay.{rest-turn}
-use Rattle.frame_bytes.proofs.Sizes.{place-most}
-use Rattle.frame_bytes.proofs.Kept.{kept_byte, kept-length}
-use Rattle.frame_bytes.specs.Bytes.{kept_of}
+use Rattle.blocks.specs.Lists.{Laid}
 use Rattle.frame_bytes.proofs.keep.Given as goal
 
 abbrev pub invariant-loop-k : goal.invariant-loop-k

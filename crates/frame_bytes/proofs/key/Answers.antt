@@ -5,7 +5,6 @@ use mathlib.Core.List.{◌++◌, append-nil}
 use mathlib.Core.Path.{ap, ◌∙◌}
 use lib.ListN.{length, drop_of_length-le}
 use lib.Seq.{take_all}
-use borrow.Author.Rules.{rules}
 use Rattle.frame_bytes.specs.Bytes.{strand_at}
 use Rattle.frame_bytes.proofs.Samples.{samples-length}
 use Rattle.frame_bytes.proofs.Sizes.{place-most}

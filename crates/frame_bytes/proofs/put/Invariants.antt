@@ -1,15 +1,9 @@
 -- `put` meets its contract: the first k samples are in their places.
-use Prim.Native.Nat.{◌+◌, ◌-◌, ◌*◌, ◌≤◌}
-use native.Mathlib.Nat.{zero-add}
-use native.Mathlib.Numerals.{add-one}
-use native.Mathlib.Omega.{arith}
-use mathlib.Core.Path.{◌≡◌, refl, sym, ap, ◌∙◌}
-use lib.Ieee.{nan}
-use lib.ListN.{length, get_or, set, length-set}
-use lib.Seq.{paste, paste-zero, paste-suc}
-use borrow.Author.Rules.{rules}
-use Rattle.frame_bytes.specs.Bytes.{sample_at, strand_at}
-use Rattle.frame_bytes.proofs.Samples.{samples-length, sample-at}
+use Prim.Native.Nat.{◌+◌, ◌-◌, ◌≤◌}
+use mathlib.Core.Path.{◌≡◌}
+use lib.ListN.{length}
+use lib.Seq.{paste}
+use Rattle.frame_bytes.specs.Bytes.{strand_at}
 use Rattle.frame_bytes.proofs.put.Given as goal
 
 abbrev pub invariant-loop-k : goal.invariant-loop-k

@@ -1,7 +1,6 @@
 -- `sample` meets its contract: the four bytes are its bits.
 use mathlib.Core.Path.{ap, ◌∙◌}
 use lib.Ieee.{binary32, of_bits}
-use borrow.Author.Rules.{rules}
 use Rattle.frame_bytes.proofs.sample.Goals as goal
 
 pub returns : goal.returns

@@ -2,7 +2,6 @@
 use mathlib.Core.Path.{ap}
 use Prim.Native.Nat.{ℕ, ◌+◌, ◌*◌}
 use native.Mathlib.Omega.{arith}
-use borrow.Author.Rules.{rules}
 use Rattle.frame_bytes.specs.Bytes.{frame_bytes}
 use Rattle.frame_bytes.proofs.size.Goals as goal
 

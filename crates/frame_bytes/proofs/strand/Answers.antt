@@ -5,7 +5,6 @@ use Prim.Native.Nat.{◌+◌, ◌-◌}
 use native.Mathlib.Omega.{arith}
 use lib.Ieee.{Float}
 use lib.Seq.{paste}
-use borrow.Author.Rules.{rules}
 use Rattle.frame_bytes.proofs.Samples.{samples-part, samples-tail}
 use Rattle.frame_bytes.proofs.strand.Goals as goal
 

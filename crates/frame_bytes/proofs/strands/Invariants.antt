@@ -1,13 +1,9 @@
 -- `strands` meets its contract: after c strands their samples are in the first places.
-use Prim.Native.Nat.{ℕ, ◌+◌, ◌-◌, ◌*◌, ◌≤◌}
-use native.Mathlib.Omega.{arith}
-use mathlib.Core.Path.{◌≡◌, refl, ap, ◌∙◌}
+use Prim.Native.Nat.{◌-◌, ◌*◌, ◌≤◌}
+use mathlib.Core.Path.{◌≡◌}
 use lib.ListN.{length}
-use lib.Seq.{paste, length-paste}
-use borrow.Author.Rules.{rules}
 use Rattle.sequence.specs.History.{laid}
-use Rattle.frame_bytes.specs.Bytes.{samples_at, strand_at}
-use Rattle.frame_bytes.proofs.Samples.{samples-length, none_yet, strand-next}
+use Rattle.frame_bytes.specs.Bytes.{samples_at}
 use Rattle.frame_bytes.proofs.strands.Given as goal
 
 abbrev pub invariant-loop-c : goal.invariant-loop-c
