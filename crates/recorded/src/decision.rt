@@ -1,7 +1,7 @@
 // The decision against the recorded answers. A list: threshold, hold_ms, gate_lufs, count of frames; then for each frame 8 inputs
 // (probability, level_dbfs, 4 features, momentary, short_term), the 14 words of the answer, the frames left in the hold, and the speech
 // power as flag and value.
-use super::input::BUFFER;
+use super::input::Buffer;
 use super::replay::Replay;
 use detector::{FeatureDetector, Features, Frame, Heard};
 use float::Lufs;
@@ -66,8 +66,8 @@ fn stored(d: Decision) -> [u64; 3] {
 // Frame i of a list.
 fn step(
     before: Replay,
-    name: &[u8],
-    buffer: &mut [u8; BUFFER],
+    name: &str,
+    buffer: &mut Buffer,
     i: u64,
     decision: Decision,
     settings: VadSettings,
@@ -88,8 +88,8 @@ fn step(
 // A list's frames, from a strand that has heard nothing.
 fn play(
     mut r: Replay,
-    name: &[u8],
-    buffer: &mut [u8; BUFFER],
+    name: &str,
+    buffer: &mut Buffer,
     settings: VadSettings,
     count: u64,
 ) -> Replay {
@@ -109,7 +109,7 @@ fn play(
     r
 }
 
-pub fn list(before: Replay, name: &[u8], buffer: &mut [u8; BUFFER]) -> Replay {
+pub fn list(before: Replay, name: &str, buffer: &mut Buffer) -> Replay {
     let mut head = [0u64; 4];
     let r = before.list(buffer, &mut head);
     if r.input.ended {

@@ -1,6 +1,6 @@
 // The voice detector against the recorded frames. A list: signal (3 words), count of frames; then probability, level_dbfs and the four
 // features of the frames that are shown.
-use super::input::BUFFER;
+use super::input::Buffer;
 use super::replay::Replay;
 use super::signal;
 use super::signal::Signal;
@@ -19,7 +19,7 @@ fn words(f: Frame) -> [u64; 6] {
 }
 
 // A list's frames, from a detector that has heard nothing.
-fn play(mut r: Replay, name: &[u8], buffer: &mut [u8; BUFFER], s: Signal, count: u64) -> Replay {
+fn play(mut r: Replay, name: &str, buffer: &mut Buffer, s: Signal, count: u64) -> Replay {
     let mut detector = FeatureDetector::new();
     let mut first = 0;
     let mut i = 0;
@@ -39,7 +39,7 @@ fn play(mut r: Replay, name: &[u8], buffer: &mut [u8; BUFFER], s: Signal, count:
     r
 }
 
-pub fn list(before: Replay, name: &[u8], buffer: &mut [u8; BUFFER]) -> Replay {
+pub fn list(before: Replay, name: &str, buffer: &mut Buffer) -> Replay {
     let mut head = [0u64; 4];
     let r = before.list(buffer, &mut head);
     if r.input.ended {

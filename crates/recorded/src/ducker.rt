@@ -1,6 +1,6 @@
 // The ratio duck against the recorded answers. A list: count of frames; then for each frame the duck's 6 settings and 6 inputs, the 13
 // words of the answer and the 4 loops after it.
-use super::input::BUFFER;
+use super::input::Buffer;
 use super::replay::Replay;
 use comis::loop_bank::Loops;
 use float::{Db, Lufs};
@@ -51,7 +51,7 @@ fn stored(l: Loops) -> [u64; 4] {
 }
 
 // Frame i of a list.
-fn step(before: Replay, name: &[u8], buffer: &mut [u8; BUFFER], i: u64, loops: Loops) -> Stepped {
+fn step(before: Replay, name: &str, buffer: &mut Buffer, i: u64, loops: Loops) -> Stepped {
     let mut s = [0u64; SETTINGS];
     let mut x = [0u64; INPUTS];
     let set = before.words(buffer, &mut s);
@@ -69,7 +69,7 @@ fn step(before: Replay, name: &[u8], buffer: &mut [u8; BUFFER], i: u64, loops: L
 }
 
 // A list's frames, from loops at 0.
-fn play(mut r: Replay, name: &[u8], buffer: &mut [u8; BUFFER], count: u64) -> Replay {
+fn play(mut r: Replay, name: &str, buffer: &mut Buffer, count: u64) -> Replay {
     let mut loops = Loops {
         slow: Db(0.0),
         mid: Db(0.0),
@@ -91,7 +91,7 @@ fn play(mut r: Replay, name: &[u8], buffer: &mut [u8; BUFFER], count: u64) -> Re
     r
 }
 
-pub fn list(before: Replay, name: &[u8], buffer: &mut [u8; BUFFER]) -> Replay {
+pub fn list(before: Replay, name: &str, buffer: &mut Buffer) -> Replay {
     let mut head = [0u64; 1];
     let r = before.list(buffer, &mut head);
     if r.input.ended {

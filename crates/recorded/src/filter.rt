@@ -1,6 +1,6 @@
 // The six sections against the recorded outputs. A list: section, signal (3 words), count; then the outputs of the samples 0 to
 // count - 1 and the state after them, z1 and z2.
-use super::input::BUFFER;
+use super::input::Buffer;
 use super::replay::Replay;
 use super::signal::Signal;
 use biquad::{Coefficients, State};
@@ -20,8 +20,8 @@ fn section(place: u64) -> Coefficients {
 // A list's outputs and its state at the end, from a section at rest.
 fn play(
     mut r: Replay,
-    name: &[u8],
-    buffer: &mut [u8; BUFFER],
+    name: &str,
+    buffer: &mut Buffer,
     c: Coefficients,
     s: Signal,
     count: u64,
@@ -46,7 +46,7 @@ fn play(
     )
 }
 
-pub fn list(before: Replay, name: &[u8], buffer: &mut [u8; BUFFER]) -> Replay {
+pub fn list(before: Replay, name: &str, buffer: &mut Buffer) -> Replay {
     let mut head = [0u64; 5];
     let r = before.list(buffer, &mut head);
     if r.input.ended {

@@ -1,12 +1,13 @@
 // Whole frames, settings calls, resets and layout calls through a chain, against what the Rust answered. The file is calls up to its end, each its
 // number, its arguments, then what it answers: a code (0 passed, else the refusal), and 41 words after a frame's code 0 where they are
 // recorded. compare/src/calls.rs has the arguments.
-use super::input::BUFFER;
+use super::input::Buffer;
 use super::replay::Replay;
 use super::strands::{BED, SIGNALS};
-use super::{bits, replay, signal, strands};
+use super::{bits, input, replay, signal, strands};
 use chain::{Chain, Changed, Outcome, Verdict};
 use level::FRAME;
+use std::io::Stdout;
 
 // Words of an answer.
 const ANSWER: usize = 41;
@@ -44,13 +45,7 @@ fn call_code(v: Verdict) -> u64 {
 }
 
 // The 41 words of an answer. Zeros stand for those of a frame that the port refuses.
-fn compare_answer(
-    r: Replay,
-    name: &[u8],
-    buffer: &mut [u8; BUFFER],
-    place: u64,
-    o: Outcome,
-) -> Replay {
+fn compare_answer(r: Replay, name: &str, buffer: &mut Buffer, place: u64, o: Outcome) -> Replay {
     match o {
         Outcome::Passed(a) => r.compare(name, buffer, place, &words::answer(a)),
         Outcome::Refused(_) => r.compare(name, buffer, place, &[0u64; ANSWER]),
@@ -60,8 +55,8 @@ fn compare_answer(
 // A frame's code, and its answer where that is recorded.
 fn compare(
     before: Replay,
-    name: &[u8],
-    buffer: &mut [u8; BUFFER],
+    name: &str,
+    buffer: &mut Buffer,
     place: u64,
     o: Outcome,
     whole: bool,
@@ -79,8 +74,8 @@ fn compare(
 // A frame.
 fn step(
     before: Run,
-    name: &[u8],
-    buffer: &mut [u8; BUFFER],
+    name: &str,
+    buffer: &mut Buffer,
     key: &[f32],
     bed: &[f32],
     whole: bool,
@@ -108,8 +103,8 @@ fn whole(i: u64, every: u64) -> bool {
 // The first k and b samples of the strands as a frame.
 fn cut(
     mut run: Run,
-    name: &[u8],
-    buffer: &mut [u8; BUFFER],
+    name: &str,
+    buffer: &mut Buffer,
     key: &[f32],
     bed: &[f32],
     k: usize,
@@ -127,7 +122,7 @@ fn cut(
 }
 
 // Frame i, from sample `first` on.
-fn frame(before: Run, name: &[u8], buffer: &mut [u8; BUFFER], g: Given, first: u64, i: u64) -> Run {
+fn frame(before: Run, name: &str, buffer: &mut Buffer, g: Given, first: u64, i: u64) -> Run {
     let signals = g.signals;
     let key_signal = strands::signal(&signals, 0);
     let key = key_signal.frame(first);
@@ -147,8 +142,8 @@ fn frame(before: Run, name: &[u8], buffer: &mut [u8; BUFFER], g: Given, first: u
 
 fn play(
     mut run: Run,
-    name: &[u8],
-    buffer: &mut [u8; BUFFER],
+    name: &str,
+    buffer: &mut Buffer,
     g: Given,
     mut first: u64,
     count: u64,
@@ -166,7 +161,7 @@ fn play(
 }
 
 // Frames of a bed of one channel or of several.
-fn frames(mut run: Run, name: &[u8], buffer: &mut [u8; BUFFER], several: bool) -> Run {
+fn frames(mut run: Run, name: &str, buffer: &mut Buffer, several: bool) -> Run {
     let mut signals = [0u64; SIGNALS];
     let mut w = [0u64; 3];
     let before = run.r;
@@ -189,7 +184,7 @@ fn replace(x: &mut [f32], replaced: bool, at: u64, word: u64) {
 }
 
 // One frame of any lengths, in which a sample may be replaced.
-fn odd(mut run: Run, name: &[u8], buffer: &mut [u8; BUFFER], several: bool) -> Run {
+fn odd(mut run: Run, name: &str, buffer: &mut Buffer, several: bool) -> Run {
     let mut signals = [0u64; SIGNALS];
     let mut w = [0u64; 6];
     let before = run.r;
@@ -214,7 +209,7 @@ fn odd(mut run: Run, name: &[u8], buffer: &mut [u8; BUFFER], several: bool) -> R
 }
 
 // The code of a settings call, of a reset or of a layout call.
-fn changed(before: Run, name: &[u8], buffer: &mut [u8; BUFFER], c: Changed) -> Run {
+fn changed(before: Run, name: &str, buffer: &mut Buffer, c: Changed) -> Run {
     let r = before.r;
     let next = c.chain;
     let verdict = c.verdict;
@@ -225,7 +220,7 @@ fn changed(before: Run, name: &[u8], buffer: &mut [u8; BUFFER], c: Changed) -> R
     }
 }
 
-fn set(mut run: Run, name: &[u8], buffer: &mut [u8; BUFFER]) -> Run {
+fn set(mut run: Run, name: &str, buffer: &mut Buffer) -> Run {
     let mut w = [0u64; 12];
     let before = run.r;
     run.r = before.words(buffer, &mut w);
@@ -233,7 +228,7 @@ fn set(mut run: Run, name: &[u8], buffer: &mut [u8; BUFFER]) -> Run {
     changed(run, name, buffer, chain.set(words::settings(&w)))
 }
 
-fn reset(mut run: Run, name: &[u8], buffer: &mut [u8; BUFFER]) -> Run {
+fn reset(mut run: Run, name: &str, buffer: &mut Buffer) -> Run {
     let mut w = [0u64; 1];
     let before = run.r;
     run.r = before.words(buffer, &mut w);
@@ -241,7 +236,7 @@ fn reset(mut run: Run, name: &[u8], buffer: &mut [u8; BUFFER]) -> Run {
     changed(run, name, buffer, chain.reset(w[0]))
 }
 
-fn layout(mut run: Run, name: &[u8], buffer: &mut [u8; BUFFER]) -> Run {
+fn layout(mut run: Run, name: &str, buffer: &mut Buffer) -> Run {
     let mut count = [0u64; 1];
     let mut places = [0u64; 24];
     let before = run.r;
@@ -266,7 +261,7 @@ fn fresh(r: Replay) -> Run {
 }
 
 // The next call, where there is one.
-fn next_call(mut run: Run, name: &[u8], buffer: &mut [u8; BUFFER]) -> Run {
+fn next_call(mut run: Run, name: &str, buffer: &mut Buffer) -> Run {
     let mut call = [0u64; 1];
     let before = run.r;
     let r = before.first_words(buffer, &mut call);
@@ -290,9 +285,9 @@ fn next_call(mut run: Run, name: &[u8], buffer: &mut [u8; BUFFER]) -> Run {
     }
 }
 
-fn all_calls(name: &[u8], buffer: &mut [u8; BUFFER]) -> Replay {
+fn all_calls(out: Stdout, name: &str, buffer: &mut Buffer) -> Replay {
     let mut run = Run {
-        r: replay::open(name, buffer),
+        r: replay::open(out, buffer),
         chain: Chain::new(),
         place: 0,
     };
@@ -307,8 +302,8 @@ fn all_calls(name: &[u8], buffer: &mut [u8; BUFFER]) -> Replay {
     run.r
 }
 
-pub fn replay(name: &[u8]) {
-    let mut buffer = io::buffer();
-    let r = all_calls(name, &mut buffer);
-    r.finish(name, b" lists, ", b" calls, ");
+pub fn replay(rt: &HostRuntime, name: &str) {
+    let mut buffer = input::named(rt, name);
+    let r = all_calls(rt.stdout(), name, &mut buffer);
+    r.finish(name, " lists, ", " calls, ");
 }

@@ -1,9 +1,11 @@
 // Reads a recorded file: 256 bytes of text, then words of 64 bits, little-endian, in lists.
-use super::print;
 use blocks::little_endian::read8;
+use program::input::fill;
+use std::fs::File;
+use std::io::Stdout;
 
 // Bytes that are read at a time.
-pub const BUFFER: usize = 4096;
+const BUFFER: usize = 4096;
 
 // The same in words.
 const BUFFER_WORDS: usize = 512;
@@ -11,10 +13,17 @@ const BUFFER_WORDS: usize = 512;
 // The text's length in words.
 const TEXT: usize = 32;
 
-// A file that is read through a buffer, which its reader lends to each call.
+// A file, if there is one of that name, and what was read of it last. Its reader lends it to each call.
+#[derive(Drop)]
+pub struct Buffer {
+    file: Option<File>,
+    bytes: [u8; BUFFER],
+}
+
+// How far a file has been read.
 #[derive(Clone, Copy)]
 pub struct Input {
-    pub fd: i32, // negative: there is no such file
+    missing: bool, // there is no such file
     at: usize, // the buffer's next word
     held: usize, // how many words the buffer holds
     pub ended: bool, // whether more was asked for than there is
@@ -28,28 +37,46 @@ pub struct Got {
     pub input: Input,
 }
 
-// A file by its name, past its text.
-pub fn open(name: &[u8], buffer: &mut [u8; BUFFER]) -> Input {
-    let file = Input {
-        fd: os::open_read(name),
+// A file by its name.
+pub fn named(rt: &HostRuntime, name: &str) -> Buffer {
+    Buffer {
+        file: File::open(rt, name).ok(),
+        bytes: [0u8; BUFFER],
+    }
+}
+
+// The file past its text.
+pub fn open(buffer: &mut Buffer) -> Input {
+    let input = Input {
+        missing: buffer.file.is_none(),
         at: 0,
         held: 0,
         ended: false,
         early: false,
     };
     let mut text = [0u64; TEXT];
-    file.words(buffer, &mut text)
+    input.words(buffer, &mut text)
+}
+
+impl Buffer {
+    // The next bytes of the file, and how many they are.
+    fn filled(&mut self) -> usize {
+        match &mut self.file {
+            Some(file) => fill(file, &mut self.bytes),
+            None => 0,
+        }
+    }
 }
 
 impl Input {
     // The same file with a word in the buffer, where there is one.
-    fn filled(self, buffer: &mut [u8; BUFFER]) -> Input {
+    fn filled(self, buffer: &mut Buffer) -> Input {
         if self.at < self.held {
             return self;
         }
-        let n = io::read_full(self.fd, buffer);
+        let n = buffer.filled();
         Input {
-            fd: self.fd,
+            missing: self.missing,
             at: 0,
             held: n / 8,
             ended: self.ended,
@@ -57,14 +84,14 @@ impl Input {
         }
     }
 
-    pub fn word(self, buffer: &mut [u8; BUFFER]) -> Got {
+    pub fn word(self, buffer: &mut Buffer) -> Got {
         let mut input = self.filled(buffer);
         let at = input.at;
         if at < input.held {
             if at < BUFFER_WORDS {
                 input.at = at + 1;
                 return Got {
-                    word: read8(buffer, at * 8),
+                    word: read8(&buffer.bytes, at * 8),
                     input,
                 };
             }
@@ -83,7 +110,7 @@ impl Input {
     }
 
     // The next words, as many as `to` has places.
-    pub fn words(mut self, buffer: &mut [u8; BUFFER], to: &mut [u64]) -> Input {
+    pub fn words(mut self, buffer: &mut Buffer, to: &mut [u64]) -> Input {
         let mut i = 0;
         while i < to.len() {
             let g = self.word(buffer);
@@ -96,7 +123,7 @@ impl Input {
     }
 
     // The same for the words that a list begins with: here the file may end.
-    pub fn first_words(self, buffer: &mut [u8; BUFFER], to: &mut [u64]) -> Input {
+    pub fn first_words(self, buffer: &mut Buffer, to: &mut [u64]) -> Input {
         let mut input = self.filled(buffer);
         if input.at < input.held {
             return input.words(buffer, to);
@@ -105,17 +132,14 @@ impl Input {
         input
     }
 
-    // Says where the file isn't as it should be, and closes it.
-    pub fn close(self, name: &[u8]) {
-        if self.fd < 0 {
-            print::text(name);
-            print::text(b": no such file\n");
+    // Says where the file isn't as it should be.
+    pub fn close(self, out: Stdout, name: &str) {
+        if self.missing {
+            let _ = println!(out; "{name}: no such file");
             return;
         }
-        libc::close(self.fd);
         if self.early {
-            print::text(name);
-            print::text(b": the file ends early\n");
+            let _ = println!(out; "{name}: the file ends early");
         }
     }
 }

@@ -1,6 +1,6 @@
 // The level against the recorded readings. A list: signal (3 words), count of frames; then power, momentary, short_term and fast of
 // the frames that are shown.
-use super::input::BUFFER;
+use super::input::Buffer;
 use super::replay::Replay;
 use super::signal;
 use super::signal::Signal;
@@ -16,7 +16,7 @@ fn words(r: Reading) -> [u64; 4] {
 }
 
 // A list's readings, from a level that has heard nothing.
-fn play(mut r: Replay, name: &[u8], buffer: &mut [u8; BUFFER], s: Signal, count: u64) -> Replay {
+fn play(mut r: Replay, name: &str, buffer: &mut Buffer, s: Signal, count: u64) -> Replay {
     let mut level = Level::new();
     let mut first = 0;
     let mut i = 0;
@@ -36,7 +36,7 @@ fn play(mut r: Replay, name: &[u8], buffer: &mut [u8; BUFFER], s: Signal, count:
     r
 }
 
-pub fn list(before: Replay, name: &[u8], buffer: &mut [u8; BUFFER]) -> Replay {
+pub fn list(before: Replay, name: &str, buffer: &mut Buffer) -> Replay {
     let mut head = [0u64; 4];
     let r = before.list(buffer, &mut head);
     if r.input.ended {

@@ -1,7 +1,8 @@
 // The modules whose recorded files are lists of answers, each list from a fresh state.
-use super::input::BUFFER;
+use super::input::Buffer;
 use super::replay::Replay;
-use super::{decision, detector_frames, ducker, filter, level_frames, replay};
+use super::{decision, detector_frames, ducker, filter, input, level_frames, replay};
+use std::io::Stdout;
 
 #[derive(Clone, Copy)]
 pub enum Module {
@@ -13,7 +14,7 @@ pub enum Module {
 }
 
 // The module's next list, where there is one.
-fn next_list(module: Module, r: Replay, name: &[u8], buffer: &mut [u8; BUFFER]) -> Replay {
+fn next_list(module: Module, r: Replay, name: &str, buffer: &mut Buffer) -> Replay {
     match module {
         Module::Filter => filter::list(r, name, buffer),
         Module::Level => level_frames::list(r, name, buffer),
@@ -23,8 +24,8 @@ fn next_list(module: Module, r: Replay, name: &[u8], buffer: &mut [u8; BUFFER]) 
     }
 }
 
-fn all_lists(module: Module, name: &[u8], buffer: &mut [u8; BUFFER]) -> Replay {
-    let mut r = replay::open(name, buffer);
+fn all_lists(out: Stdout, module: Module, name: &str, buffer: &mut Buffer) -> Replay {
+    let mut r = replay::open(out, buffer);
     let mut turns = u64::MAX;
     while 0 < turns {
         r = next_list(module, r, name, buffer);
@@ -37,8 +38,8 @@ fn all_lists(module: Module, name: &[u8], buffer: &mut [u8; BUFFER]) -> Replay {
 }
 
 // Replays a module's file and says what its lists and its answers came to.
-pub fn replay(module: Module, name: &[u8], lists: &[u8], answers: &[u8]) {
-    let mut buffer = io::buffer();
-    let r = all_lists(module, name, &mut buffer);
+pub fn replay(rt: &HostRuntime, module: Module, name: &str, lists: &str, answers: &str) {
+    let mut buffer = input::named(rt, name);
+    let r = all_lists(rt.stdout(), module, name, &mut buffer);
     r.finish(name, lists, answers);
 }

@@ -19,13 +19,13 @@ mod strands;
 
 use lists::Module;
 
-fn main() {
-    numbers::replay(b"numbers");
-    lists::replay(Module::Filter, b"filter", b" signals, ", b" outputs, ");
-    lists::replay(Module::Level, b"level", b" signals, ", b" readings, ");
-    lists::replay(Module::Detector, b"detector", b" signals, ", b" frames, ");
-    lists::replay(Module::Decision, b"decision", b" lists, ", b" frames, ");
-    lists::replay(Module::Ducker, b"ducker", b" lists, ", b" frames, ");
-    frames::replay(b"frames");
-    frames::replay(b"surround");
+fn main(rt: HostRuntime) {
+    numbers::replay(&rt, "numbers");
+    lists::replay(&rt, Module::Filter, "filter", " signals, ", " outputs, ");
+    lists::replay(&rt, Module::Level, "level", " signals, ", " readings, ");
+    lists::replay(&rt, Module::Detector, "detector", " signals, ", " frames, ");
+    lists::replay(&rt, Module::Decision, "decision", " lists, ", " frames, ");
+    lists::replay(&rt, Module::Ducker, "ducker", " lists, ", " frames, ");
+    frames::replay(&rt, "frames");
+    frames::replay(&rt, "surround");
 }

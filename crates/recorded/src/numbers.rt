@@ -1,7 +1,8 @@
 // The number functions against recorded cases of three words: the function's number, the argument's bits, the result's bits.
-use super::input::{BUFFER, Input};
+use super::input::{Buffer, Input};
 use super::replay::SHOWN;
 use super::{input, print};
+use std::io::Stdout;
 
 // Functions are counted from 1; place 0 counts cases of unknown functions.
 const PLACES: usize = 10;
@@ -22,23 +23,24 @@ fn result(function: usize, argument: u64) -> u64 {
     }
 }
 
-fn print_name(function: usize) {
+fn name_of(function: usize) -> &'static str {
     match function {
-        0 => print::text(b"unknown functions"),
-        1 => print::text(b"log2"),
-        2 => print::text(b"log10"),
-        3 => print::text(b"exp2"),
-        4 => print::text(b"exp"),
-        5 => print::text(b"exp10"),
-        6 => print::text(b"exp60"),
-        7 => print::text(b"sqrt"),
-        8 => print::text(b"narrow"),
-        _ => print::text(b"round"),
+        0 => "unknown functions",
+        1 => "log2",
+        2 => "log10",
+        3 => "exp2",
+        4 => "exp",
+        5 => "exp10",
+        6 => "exp60",
+        7 => "sqrt",
+        8 => "narrow",
+        _ => "round",
     }
 }
 
 // Counts a case, and counts and shows it where the result differs.
 fn compare(
+    out: Stdout,
     function: usize,
     argument: u64,
     recorded: u64,
@@ -55,18 +57,18 @@ fn compare(
         return;
     }
     if differ[function] < SHOWN {
-        print_name(function);
-        print::text(b" of ");
-        print::hex(argument);
-        print::difference(recorded, computed);
+        let function_name = name_of(function);
+        print::text(out, format_args!("{function_name} of {argument:016x}"));
+        print::difference(out, recorded, computed);
     }
     differ[function] = std::num::wrapping_add_u64(differ[function], 1);
 }
 
 // Reads and compares the next case, where there is one.
 fn next_case(
+    out: Stdout,
     before: Input,
-    buffer: &mut [u8; BUFFER],
+    buffer: &mut Buffer,
     cases: &mut [u64; PLACES],
     differ: &mut [u64; PLACES],
 ) -> Input {
@@ -75,16 +77,20 @@ fn next_case(
     if input.ended {
         return input;
     }
-    compare(case[0] as usize, case[1], case[2], cases, differ);
+    compare(out, case[0] as usize, case[1], case[2], cases, differ);
     input
 }
 
-fn all_cases(name: &[u8], cases: &mut [u64; PLACES], differ: &mut [u64; PLACES]) -> Input {
-    let mut buffer = io::buffer();
-    let mut input = input::open(name, &mut buffer);
+fn all_cases(
+    out: Stdout,
+    buffer: &mut Buffer,
+    cases: &mut [u64; PLACES],
+    differ: &mut [u64; PLACES],
+) -> Input {
+    let mut input = input::open(buffer);
     let mut turns = u64::MAX;
     while 0 < turns {
-        input = next_case(input, &mut buffer, cases, differ);
+        input = next_case(out, input, buffer, cases, differ);
         if input.ended {
             return input;
         }
@@ -93,29 +99,26 @@ fn all_cases(name: &[u8], cases: &mut [u64; PLACES], differ: &mut [u64; PLACES])
     input
 }
 
-fn print_counts(function: usize, cases: u64, differ: u64) {
-    print_name(function);
-    print::text(b": ");
-    print::number(cases);
-    print::text(b" cases, ");
-    print::number(differ);
-    print::text(b" differ\n");
+fn print_counts(out: Stdout, function: usize, cases: u64, differ: u64) {
+    let function_name = name_of(function);
+    let _ = println!(out; "{function_name}: {cases} cases, {differ} differ");
 }
 
 // A line for each function, and one for unknown functions where there are any.
-fn print_all(cases: &[u64; PLACES], differ: &[u64; PLACES]) {
+fn print_all(out: Stdout, cases: &[u64; PLACES], differ: &[u64; PLACES]) {
     for function in 1..PLACES {
-        print_counts(function, cases[function], differ[function]);
+        print_counts(out, function, cases[function], differ[function]);
     }
     if 0 < cases[0] {
-        print_counts(0, cases[0], 0);
+        print_counts(out, 0, cases[0], 0);
     }
 }
 
-pub fn replay(name: &[u8]) {
+pub fn replay(rt: &HostRuntime, name: &str) {
     let mut cases = [0u64; PLACES];
     let mut differ = [0u64; PLACES];
-    let input = all_cases(name, &mut cases, &mut differ);
-    input.close(name);
-    print_all(&cases, &differ);
+    let mut buffer = input::named(rt, name);
+    let input = all_cases(rt.stdout(), &mut buffer, &mut cases, &mut differ);
+    input.close(rt.stdout(), name);
+    print_all(rt.stdout(), &cases, &differ);
 }

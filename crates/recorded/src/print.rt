@@ -1,23 +1,12 @@
-// What the program writes to standard output.
-use libc::STDOUT_FILENO;
+// What the program writes to standard output. What can't be written is let go.
+use std::fmt::Display;
+use std::io::Stdout;
 
-pub fn text(s: &[u8]) {
-    io::write_all(STDOUT_FILENO, s);
-}
-
-pub fn number(n: u64) {
-    io::print_decimal(STDOUT_FILENO, n);
-}
-
-pub fn hex(bits: u64) {
-    io::print_hex(STDOUT_FILENO, bits, 16);
+pub fn text<D: Display + Drop>(out: Stdout, s: D) {
+    let _ = out.print(s);
 }
 
 // The end of a line that says what differs.
-pub fn difference(recorded: u64, computed: u64) {
-    text(b": recorded ");
-    hex(recorded);
-    text(b", computed ");
-    hex(computed);
-    text(b"\n");
+pub fn difference(out: Stdout, recorded: u64, computed: u64) {
+    let _ = println!(out; ": recorded {recorded:016x}, computed {computed:016x}");
 }

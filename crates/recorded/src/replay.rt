@@ -1,12 +1,14 @@
 // A recorded file of lists, and what has been compared of it.
-use super::input::{BUFFER, Input};
+use super::input::{Buffer, Input};
 use super::print;
+use std::io::Stdout;
 
 // How many differing answers are shown.
 pub const SHOWN: u64 = 5;
 
 #[derive(Clone, Copy)]
 pub struct Replay {
+    out: Stdout,
     pub input: Input,
     lists: u64,
     answers: u64,
@@ -16,17 +18,15 @@ pub struct Replay {
 }
 
 // The beginning of a line on a difference. Lists and places are counted from 0.
-fn print_place(name: &[u8], list: u64, place: u64) {
-    print::text(name);
-    print::text(b": list ");
-    print::number(list);
-    print::text(b", place ");
-    print::number(place);
+fn print_place(out: Stdout, name: &str, list: u64, place: u64) {
+    let _ = print!(out; "{name}: list {list}, place {place}");
 }
 
-pub fn open(name: &[u8], buffer: &mut [u8; BUFFER]) -> Replay {
+// A file past its text; `out` is where its differences are shown.
+pub fn open(out: Stdout, buffer: &mut Buffer) -> Replay {
     Replay {
-        input: super::input::open(name, buffer),
+        out,
+        input: super::input::open(buffer),
         lists: 0,
         answers: 0,
         differ: 0,
@@ -37,7 +37,7 @@ pub fn open(name: &[u8], buffer: &mut [u8; BUFFER]) -> Replay {
 
 impl Replay {
     // The next words, where the file may end before them.
-    pub fn first_words(mut self, buffer: &mut [u8; BUFFER], to: &mut [u64]) -> Replay {
+    pub fn first_words(mut self, buffer: &mut Buffer, to: &mut [u64]) -> Replay {
         let before = self.input;
         let input = before.first_words(buffer, to);
         self.input = input;
@@ -51,7 +51,7 @@ impl Replay {
     }
 
     // The words that the next list begins with, where there is one.
-    pub fn list(self, buffer: &mut [u8; BUFFER], to: &mut [u64]) -> Replay {
+    pub fn list(self, buffer: &mut Buffer, to: &mut [u64]) -> Replay {
         let r = self.first_words(buffer, to);
         if r.input.ended {
             return r;
@@ -60,7 +60,7 @@ impl Replay {
     }
 
     // The next words of the list.
-    pub fn words(mut self, buffer: &mut [u8; BUFFER], to: &mut [u64]) -> Replay {
+    pub fn words(mut self, buffer: &mut Buffer, to: &mut [u64]) -> Replay {
         let before = self.input;
         let input = before.words(buffer, to);
         self.input = input;
@@ -68,7 +68,7 @@ impl Replay {
     }
 
     // 1 where the recorded word is another than the computed one, which is shown; else 0.
-    fn off(self, name: &[u8], place: u64, recorded: u64, computed: u64) -> u64 {
+    fn off(self, name: &str, place: u64, recorded: u64, computed: u64) -> u64 {
         if self.input.ended {
             return 0;
         }
@@ -76,16 +76,21 @@ impl Replay {
             return 0;
         }
         if self.differ < SHOWN {
-            print_place(name, std::num::wrapping_sub_u64(self.lists, 1), place);
-            print::text(b", word ");
-            print::number(self.word);
-            print::difference(recorded, computed);
+            print_place(
+                self.out,
+                name,
+                std::num::wrapping_sub_u64(self.lists, 1),
+                place,
+            );
+            let word = self.word;
+            print::text(self.out, format_args!(", word {word}"));
+            print::difference(self.out, recorded, computed);
         }
         1
     }
 
     // Compares a word that has been read with the computed one.
-    pub fn judge(mut self, name: &[u8], place: u64, recorded: u64, computed: u64) -> Replay {
+    pub fn judge(mut self, name: &str, place: u64, recorded: u64, computed: u64) -> Replay {
         self.wrong = self.wrong | self.off(name, place, recorded, computed);
         self.word = std::num::wrapping_add_u64(self.word, 1);
         self
@@ -93,8 +98,8 @@ impl Replay {
 
     fn compare_word(
         mut self,
-        name: &[u8],
-        buffer: &mut [u8; BUFFER],
+        name: &str,
+        buffer: &mut Buffer,
         place: u64,
         computed: u64,
     ) -> Replay {
@@ -106,13 +111,7 @@ impl Replay {
     }
 
     // Compares the list's next words with those of a part of an answer. The place is shown where they differ.
-    pub fn compare(
-        mut self,
-        name: &[u8],
-        buffer: &mut [u8; BUFFER],
-        place: u64,
-        words: &[u64],
-    ) -> Replay {
+    pub fn compare(mut self, name: &str, buffer: &mut Buffer, place: u64, words: &[u64]) -> Replay {
         let mut k = 0;
         while k < words.len() {
             self = self.compare_word(name, buffer, place, words[k]);
@@ -122,13 +121,18 @@ impl Replay {
     }
 
     // The Rust accepted each recorded frame, so one that runs away differs.
-    pub fn accept(mut self, name: &[u8], place: u64, finite: bool) -> Replay {
+    pub fn accept(mut self, name: &str, place: u64, finite: bool) -> Replay {
         if finite {
             return self;
         }
         if self.differ < SHOWN {
-            print_place(name, std::num::wrapping_sub_u64(self.lists, 1), place);
-            print::text(b": runs away\n");
+            print_place(
+                self.out,
+                name,
+                std::num::wrapping_sub_u64(self.lists, 1),
+                place,
+            );
+            print::text(self.out, ": runs away\n");
         }
         self.wrong = 1;
         self
@@ -147,13 +151,7 @@ impl Replay {
     }
 
     // Compares the list's next words with those of a whole answer.
-    pub fn answer(
-        self,
-        name: &[u8],
-        buffer: &mut [u8; BUFFER],
-        place: u64,
-        words: &[u64],
-    ) -> Replay {
+    pub fn answer(self, name: &str, buffer: &mut Buffer, place: u64, words: &[u64]) -> Replay {
         self.compare(name, buffer, place, words).count()
     }
 
@@ -164,17 +162,13 @@ impl Replay {
         self
     }
 
-    // Closes the file and says what its lists and its answers came to.
-    pub fn finish(self, name: &[u8], lists: &[u8], answers: &[u8]) {
-        let input = self.input;
-        input.close(name);
-        print::text(name);
-        print::text(b": ");
-        print::number(self.lists);
-        print::text(lists);
-        print::number(self.answers);
-        print::text(answers);
-        print::number(self.differ);
-        print::text(b" differ\n");
+    // Says what the file's lists and its answers came to.
+    pub fn finish(self, name: &str, lists: &str, answers: &str) {
+        let out = self.out;
+        self.input.close(out, name);
+        let list_count = self.lists;
+        let count = self.answers;
+        let differ = self.differ;
+        let _ = println!(out; "{name}: {list_count}{lists}{count}{answers}{differ} differ");
     }
 }

@@ -1,5 +1,5 @@
 // The signals of the recorded files, frame by frame.
-use super::input::BUFFER;
+use super::input::Buffer;
 use super::replay::Replay;
 use super::{bits, signals};
 use level::FRAME;
@@ -20,8 +20,8 @@ fn shown(i: u64) -> bool {
 // Compares the answer of frame i, where it is recorded.
 pub fn compare(
     r: Replay,
-    name: &[u8],
-    buffer: &mut [u8; BUFFER],
+    name: &str,
+    buffer: &mut Buffer,
     i: u64,
     words: &[u64],
     finite: bool,

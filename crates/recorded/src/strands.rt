@@ -1,5 +1,5 @@
 // The strands of a frame call, by the words of their signals.
-use super::input::BUFFER;
+use super::input::Buffer;
 use super::replay::Replay;
 use super::signal::Signal;
 use level::FRAME;
@@ -11,7 +11,7 @@ pub const SIGNALS: usize = 28;
 pub const BED: usize = 3841;
 
 // The words of the signals. Calls for a bed of one channel have no number of channels, and one signal of the bed.
-pub fn read(r: Replay, buffer: &mut [u8; BUFFER], several: bool, s: &mut [u64; SIGNALS]) -> Replay {
+pub fn read(r: Replay, buffer: &mut Buffer, several: bool, s: &mut [u64; SIGNALS]) -> Replay {
     if several {
         return r.words(buffer, s);
     }
