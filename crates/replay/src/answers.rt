@@ -4,7 +4,6 @@ ghost use Rattle.std.specs.Prelude.{◌+◌, ◌<◌, ◌≤◌, length};
 use super::input::IMAGE;
 use blocks::little_endian::write8;
 use chain::{Answer, Outcome, Verdict};
-use libc::STDOUT_FILENO;
 
 // Words of the answer to a frame that passes.
 const WORDS: usize = 42;
@@ -31,54 +30,54 @@ fn put_all(out: &mut [u8; BYTES], first: usize, words: &[u64])
 }
 
 // Writes the first n words, and answers whether that could be done.
-fn write(out: &[u8; BYTES], n: usize) -> bool
+fn write(rt: &HostRuntime, out: &[u8; BYTES], n: usize) -> bool
     requires { n ≤ 42 }
 {
     let whole: &[u8] = out;
-    io::write_all(STDOUT_FILENO, &whole[..8 * n])
+    rt.write_all(&whole[..8 * n]).is_ok()
 }
 
-fn passed(a: Answer) -> bool {
+fn passed(rt: &HostRuntime, a: Answer) -> bool {
     let mut out = [0u8; BYTES];
     put_all(&mut out, 1, &words::answer(a));
-    write(&out, WORDS)
+    write(rt, &out, WORDS)
 }
 
-fn code(n: u64) -> bool {
+fn code(rt: &HostRuntime, n: u64) -> bool {
     let mut out = [0u8; BYTES];
     put(&mut out, 0, n);
-    write(&out, 1)
+    write(rt, &out, 1)
 }
 
 // What a frame got; whether it could be written.
-pub fn frame(outcome: Outcome) -> bool {
+pub fn frame(rt: &HostRuntime, outcome: Outcome) -> bool {
     match outcome {
-        Outcome::Passed(a) => passed(a),
-        Outcome::Refused(refusal) => code(refusal::number(refusal)),
+        Outcome::Passed(a) => passed(rt, a),
+        Outcome::Refused(refusal) => code(rt, refusal::number(refusal)),
     }
 }
 
 // The same for a settings call, a reset, a layout call or a restore.
-pub fn verdict(verdict: Verdict) -> bool {
+pub fn verdict(rt: &HostRuntime, verdict: Verdict) -> bool {
     match verdict {
-        Verdict::Passed => code(0),
-        Verdict::Refused(refusal) => code(refusal::number(refusal)),
+        Verdict::Passed => code(rt, 0),
+        Verdict::Refused(refusal) => code(rt, refusal::number(refusal)),
     }
 }
 
 // The image is the first 11,264 bytes.
-fn image(lent: &[u8; IMAGE]) -> bool {
+fn image(rt: &HostRuntime, lent: &[u8; IMAGE]) -> bool {
     let whole: &[u8] = lent;
-    if code(0) {
-        return io::write_all(STDOUT_FILENO, &whole[..image::BYTES]);
+    if code(rt, 0) {
+        return rt.write_all(&whole[..image::BYTES]).is_ok();
     }
     false
 }
 
 // The same for a save into lent bytes.
-pub fn saved(verdict: Verdict, lent: &[u8; IMAGE]) -> bool {
+pub fn saved(rt: &HostRuntime, verdict: Verdict, lent: &[u8; IMAGE]) -> bool {
     match verdict {
-        Verdict::Passed => image(lent),
-        Verdict::Refused(refusal) => code(refusal::number(refusal)),
+        Verdict::Passed => image(rt, lent),
+        Verdict::Refused(refusal) => code(rt, refusal::number(refusal)),
     }
 }

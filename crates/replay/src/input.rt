@@ -4,7 +4,6 @@ ghost use Rattle.std.specs.Float.{binary32};
 ghost use Rattle.blocks.specs.Words.{word4};
 
 use blocks::little_endian::{read4, read8};
-use libc::STDIN_FILENO;
 
 // Samples that are kept of a strand: a frame's of eight channels, and one more.
 pub const STRAND: usize = 3841;
@@ -44,13 +43,13 @@ pub enum Count {
 }
 
 // Fills a slice, and answers whether the input had that much.
-fn fill(b: &mut [u8]) -> bool {
-    io::read_full(STDIN_FILENO, b) == b.len()
+fn fill(rt: &HostRuntime, b: &mut [u8]) -> bool {
+    program::input::fill(&mut rt.stdin(), b) == b.len()
 }
 
-pub fn next_letter() -> Letter {
+pub fn next_letter(rt: &HostRuntime) -> Letter {
     let mut b = [0u8; 1];
-    if fill(&mut b) {
+    if fill(rt, &mut b) {
         let first = b[0];
         return match first {
             b'F' => Letter::Frame,
@@ -66,28 +65,28 @@ pub fn next_letter() -> Letter {
 }
 
 // The next number of 32 bits.
-pub fn next_count() -> Count {
+pub fn next_count(rt: &HostRuntime) -> Count {
     let mut b = [0u8; 4];
-    if fill(&mut b) {
+    if fill(rt, &mut b) {
         return Count::Found(read4(&b, 0));
     }
     Count::End
 }
 
 // The next number of 64 bits.
-pub fn next_word() -> Word {
+pub fn next_word(rt: &HostRuntime) -> Word {
     let mut b = [0u8; 8];
-    if fill(&mut b) {
+    if fill(rt, &mut b) {
         return Word::Found(read8(&b, 0));
     }
     Word::End
 }
 
 // The next 12 words, and whether the input had them.
-pub fn next_words(to: &mut [u64; 12]) -> bool {
+pub fn next_words(rt: &HostRuntime, to: &mut [u64; 12]) -> bool {
     let mut k: usize = 0;
     while k < 12 {
-        let w = next_word();
+        let w = next_word(rt);
         let Word::Found(n) = w else {
             return false;
         };
@@ -98,11 +97,11 @@ pub fn next_words(to: &mut [u64; 12]) -> bool {
 }
 
 // The next `count` times three words, of which those of the first eight channels are kept, and whether the input had them.
-pub fn next_places(count: u32, to: &mut [u64; PLACES]) -> bool {
+pub fn next_places(rt: &HostRuntime, count: u32, to: &mut [u64; PLACES]) -> bool {
     let words = 3 * count as u64;
     let mut k: u64 = 0;
     while k < words {
-        let w = next_word();
+        let w = next_word(rt);
         let Word::Found(n) = w else {
             return false;
         };
@@ -146,18 +145,18 @@ pub fn kept(count: u64, most: usize) -> usize
 }
 
 // Fills the first n bytes, and answers whether the input had them.
-fn part(b: &mut [u8], n: usize) -> bool
+fn part(rt: &HostRuntime, b: &mut [u8], n: usize) -> bool
     requires { n ≤ length b.old }
 {
-    fill(&mut b[..n])
+    fill(rt, &mut b[..n])
 }
 
 // Reads past bytes.
-fn skip(b: &mut [u8; BYTES], count: u64) -> bool {
+fn skip(rt: &HostRuntime, b: &mut [u8; BYTES], count: u64) -> bool {
     let mut left = count;
     while 0 < left {
         let n = kept(left, BYTES);
-        if part(b, n) {
+        if part(rt, b, n) {
             left -= n as u64;
         } else {
             return false;
@@ -167,24 +166,24 @@ fn skip(b: &mut [u8; BYTES], count: u64) -> bool {
 }
 
 // The next strand, of which the first `kept(count, STRAND)` samples are kept, and whether the input had it.
-pub fn next_strand(count: u64, to: &mut [f32; STRAND]) -> bool
+pub fn next_strand(rt: &HostRuntime, count: u64, to: &mut [f32; STRAND]) -> bool
     requires { count < 2 ^ 32 }
 {
     let mut b = [0u8; BYTES];
     let n = kept(count, STRAND);
-    if part(&mut b, 4 * n) {
+    if part(rt, &mut b, 4 * n) {
         samples(&b, n, to);
-        return skip(&mut b, 4 * (count - n as u64));
+        return skip(rt, &mut b, 4 * (count - n as u64));
     }
     false
 }
 
 // The next `count` bytes, of which the first `kept(count, IMAGE)` are kept, and whether the input had them.
-pub fn next_image(count: u64, to: &mut [u8; IMAGE]) -> bool {
+pub fn next_image(rt: &HostRuntime, count: u64, to: &mut [u8; IMAGE]) -> bool {
     let mut b = [0u8; BYTES];
     let n = kept(count, IMAGE);
-    if part(to, n) {
-        return skip(&mut b, count - n as u64);
+    if part(rt, to, n) {
+        return skip(rt, &mut b, count - n as u64);
     }
     false
 }

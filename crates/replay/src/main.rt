@@ -19,7 +19,6 @@ ghost use Rattle.std.specs.Prelude.{◌≤◌, length};
 
 use chain::{Chain, Changed, Framed, Verdict};
 use input::{Count, IMAGE, Letter, PLACES, STRAND, Word};
-use libc::STDERR_FILENO;
 
 const TWO_32: u64 = 4294967296;
 
@@ -71,6 +70,7 @@ fn run(
 
 // The answer to a frame of two strands.
 fn answered(
+    rt: &HostRuntime,
     chain: Chain,
     key: &[f32; STRAND],
     key_count: u64,
@@ -88,7 +88,7 @@ fn answered(
     let next = f.chain;
     Step {
         chain: next,
-        ending: ended(answers::frame(outcome)),
+        ending: ended(answers::frame(rt, outcome)),
     }
 }
 
@@ -101,60 +101,63 @@ fn short(chain: Chain) -> Step {
 }
 
 // F. Of a strand of more than 3,841 samples 3,841 are kept, and the chain refuses these alike.
-fn frame(chain: Chain) -> Step {
+fn frame(rt: &HostRuntime, chain: Chain) -> Step {
     let mut key = [0.0f32; STRAND];
     let mut bed = [0.0f32; STRAND];
-    let w = input::next_word();
+    let w = input::next_word(rt);
     let Word::Found(counts) = w else {
         return short(chain);
     };
     let key_count = counts % TWO_32;
     let bed_count = counts / TWO_32;
-    if input::next_strand(key_count, &mut key) {
-        if input::next_strand(bed_count, &mut bed) {
-            return answered(chain, &key, key_count, &bed, bed_count);
+    if input::next_strand(rt, key_count, &mut key) {
+        if input::next_strand(rt, bed_count, &mut bed) {
+            return answered(rt, chain, &key, key_count, &bed, bed_count);
         }
     }
     short(chain)
 }
 
 // The answer to a settings call, a reset, a layout call or a restore.
-fn changed(c: Changed) -> Step {
+fn changed(rt: &HostRuntime, c: Changed) -> Step {
     let verdict = c.verdict;
     let next = c.chain;
     Step {
         chain: next,
-        ending: ended(answers::verdict(verdict)),
+        ending: ended(answers::verdict(rt, verdict)),
     }
 }
 
 // S.
-fn set(chain: Chain) -> Step {
+fn set(rt: &HostRuntime, chain: Chain) -> Step {
     let mut words = [0u64; 12];
-    if input::next_words(&mut words) {
-        return changed(freightpetal::set(chain, words::settings(&words)));
+    if input::next_words(rt, &mut words) {
+        return changed(rt, freightpetal::set(chain, words::settings(&words)));
     }
     short(chain)
 }
 
 // R.
-fn reset(chain: Chain) -> Step {
-    let w = input::next_word();
+fn reset(rt: &HostRuntime, chain: Chain) -> Step {
+    let w = input::next_word(rt);
     let Word::Found(strand) = w else {
         return short(chain);
     };
-    changed(freightpetal::reset(chain, strand))
+    changed(rt, freightpetal::reset(chain, strand))
 }
 
 // B. Of more than eight channels the places of eight are kept, and the chain refuses the layout by its count.
-fn layout(chain: Chain) -> Step {
-    let c = input::next_count();
+fn layout(rt: &HostRuntime, chain: Chain) -> Step {
+    let c = input::next_count(rt);
     let Count::Found(count) = c else {
         return short(chain);
     };
     let mut places = [0u64; PLACES];
-    if input::next_places(count, &mut places) {
-        return changed(freightpetal::layout(chain, words::layout(count as u64, &places)));
+    if input::next_places(rt, count, &mut places) {
+        return changed(
+            rt,
+            freightpetal::layout(chain, words::layout(count as u64, &places)),
+        );
     }
     short(chain)
 }
@@ -167,8 +170,8 @@ fn save_in(chain: Chain, lent: &mut [u8], n: usize) -> Verdict
 }
 
 // V. Of a buffer of more than 11,265 bytes 11,265 are lent, and both are refused alike.
-fn save(chain: Chain) -> Step {
-    let c = input::next_count();
+fn save(rt: &HostRuntime, chain: Chain) -> Step {
+    let c = input::next_count(rt);
     let Count::Found(count) = c else {
         return short(chain);
     };
@@ -176,7 +179,7 @@ fn save(chain: Chain) -> Step {
     let verdict = save_in(chain, &mut lent, input::kept(count as u64, IMAGE));
     Step {
         chain,
-        ending: ended(answers::saved(verdict, &lent)),
+        ending: ended(answers::saved(rt, verdict, &lent)),
     }
 }
 
@@ -189,28 +192,31 @@ fn restore_of(chain: Chain, bytes: &[u8; IMAGE], n: usize) -> Changed
 }
 
 // L. Of more than 11,265 bytes 11,265 are kept, and the restore refuses both alike.
-fn restore(chain: Chain) -> Step {
-    let c = input::next_count();
+fn restore(rt: &HostRuntime, chain: Chain) -> Step {
+    let c = input::next_count(rt);
     let Count::Found(count) = c else {
         return short(chain);
     };
     let mut bytes = [0u8; IMAGE];
-    if input::next_image(count as u64, &mut bytes) {
-        return changed(restore_of(chain, &bytes, input::kept(count as u64, IMAGE)));
+    if input::next_image(rt, count as u64, &mut bytes) {
+        return changed(
+            rt,
+            restore_of(chain, &bytes, input::kept(count as u64, IMAGE)),
+        );
     }
     short(chain)
 }
 
 // The next call.
-fn call(chain: Chain) -> Step {
-    let letter = input::next_letter();
+fn call(rt: &HostRuntime, chain: Chain) -> Step {
+    let letter = input::next_letter(rt);
     match letter {
-        Letter::Frame => frame(chain),
-        Letter::Settings => set(chain),
-        Letter::Reset => reset(chain),
-        Letter::Layout => layout(chain),
-        Letter::Save => save(chain),
-        Letter::Restore => restore(chain),
+        Letter::Frame => frame(rt, chain),
+        Letter::Settings => set(rt, chain),
+        Letter::Reset => reset(rt, chain),
+        Letter::Layout => layout(rt, chain),
+        Letter::Save => save(rt, chain),
+        Letter::Restore => restore(rt, chain),
         Letter::Unknown => Step {
             chain,
             ending: Ending::Unknown,
@@ -223,12 +229,12 @@ fn call(chain: Chain) -> Step {
 }
 
 // All calls, up to the one that isn't answered.
-fn calls() -> Stopped {
+fn calls(rt: &HostRuntime) -> Stopped {
     let mut chain = freightpetal::new();
     let mut number: u64 = 1;
     let mut turns = u64::MAX;
     while 0 < turns {
-        let s = call(chain);
+        let s = call(rt, chain);
         let ending = s.ending;
         let Ending::Answered = ending else {
             return Stopped {
@@ -248,28 +254,28 @@ fn calls() -> Stopped {
 }
 
 // A line on standard error.
-fn complain(before: &[u8], call: u64, after: &[u8]) {
-    io::write_all(STDERR_FILENO, before);
-    io::print_decimal(STDERR_FILENO, call);
-    io::write_all(STDERR_FILENO, after);
+fn complain(rt: &HostRuntime, before: &str, call: u64, after: &str) {
+    let _ = eprintln!(rt; "{before}{call}{after}");
 }
 
-fn main() {
-    let s = calls();
+fn main(rt: HostRuntime) {
+    let s = calls(&rt);
     let ending = s.ending;
     match ending {
         Ending::Answered => {}
         Ending::NoCall => {}
         Ending::Unknown => complain(
-            b"replay: call ",
+            &rt,
+            "replay: call ",
             s.call,
-            b" is none of F, S, R, B, V and L\n",
+            " is none of F, S, R, B, V and L",
         ),
-        Ending::Short => complain(b"replay: the input ends within call ", s.call, b"\n"),
+        Ending::Short => complain(&rt, "replay: the input ends within call ", s.call, ""),
         Ending::Unwritten => complain(
-            b"replay: the answer to call ",
+            &rt,
+            "replay: the answer to call ",
             s.call,
-            b" could not be written\n",
+            " could not be written",
         ),
     }
 }
