@@ -1,10 +1,10 @@
 // What `--help` prints.
-use libc::STDOUT_FILENO;
 use program::output;
+use program::output::Output;
 
-pub fn print() {
-    let written = io::write_all(
-        STDOUT_FILENO,
+pub fn print(rt: &HostRuntime) {
+    let mut to = Output::new(rt.stdout());
+    let written = to.write(
         b"duckline: by how much a stadium goes down under its commentator\n\
           \n\
           tools/weave KEY BED | duckline > lines\n\
@@ -47,6 +47,6 @@ pub fn print() {
           whose reader is gone ends the program without a word.\n",
     );
     if !written {
-        output::complain(b"duckline");
+        output::complain(&to, &mut rt.stderr(), b"duckline");
     }
 }

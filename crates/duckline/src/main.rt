@@ -12,11 +12,12 @@ ghost use Rattle.duckline.specs.Ending.{ending_of};
 
 use beds::{Bed, Found};
 use frame_bytes::BUFFER;
-use libc::{STDERR_FILENO, STDOUT_FILENO};
 use line_text::TEXT;
 use program::arguments::Request;
-use program::input::Got;
+use program::input::{Got, Input};
+use program::output::Output;
 use program::{arguments, input, output};
+use std::io::{Stdin, Stdout};
 
 // How the lines ended.
 #[derive(Clone, Copy)]
@@ -41,20 +42,26 @@ fn stopped(got: Got, held: usize) -> Ending
 }
 
 // Writes the first n bytes of the text, and answers whether that could be done.
-fn write(text: &[u8; TEXT], n: usize) -> bool
+fn write(to: &mut Output<Stdout>, text: &[u8; TEXT], n: usize) -> bool
     requires { n ≤ text_bytes }
 {
     let whole: &[u8] = text;
-    io::write_all(STDOUT_FILENO, &whole[..n])
+    to.write(&whole[..n])
 }
 
 // The lines of all whole frames.
-fn all_frames(bed: Bed, buffer: &mut [u8; BUFFER], text: &mut [u8; TEXT]) -> Ending {
+fn all_frames(
+    bed: Bed,
+    from: &mut Input<Stdin>,
+    buffer: &mut [u8; BUFFER],
+    text: &mut [u8; TEXT],
+    to: &mut Output<Stdout>,
+) -> Ending {
     let mut run = ducklines::fresh_run(bed.layout());
     let mut held: usize = 0;
     let mut turns = u64::MAX;
     while 0 < turns {
-        let got = input::read(buffer, held);
+        let got = input::read(from, buffer, held);
         let Got::Bytes(count) = got else {
             return stopped(got, held);
         };
@@ -62,7 +69,7 @@ fn all_frames(bed: Bed, buffer: &mut [u8; BUFFER], text: &mut [u8; TEXT]) -> End
         let next = t.run;
         run = next;
         held = t.held;
-        if write(text, run.end) {
+        if write(to, text, run.end) {
             turns -= 1;
         } else {
             return Ending::Unwritten;
@@ -72,10 +79,10 @@ fn all_frames(bed: Bed, buffer: &mut [u8; BUFFER], text: &mut [u8; TEXT]) -> End
 }
 
 // The line of so many leftover bytes, where there are any.
-fn leftover(text: &mut [u8; TEXT], left: usize) {
+fn leftover(rt: &HostRuntime, text: &mut [u8; TEXT], left: usize, to: &mut Output<Stdout>) {
     let end = line_text::short(text, left);
-    if !write(text, end) {
-        output::complain(b"duckline");
+    if !write(to, text, end) {
+        output::complain(to, &mut rt.stderr(), b"duckline");
     }
 }
 
@@ -86,66 +93,81 @@ fn buffer() -> [u8; BUFFER]
 }
 
 // All of the input.
-fn run(bed: Bed) {
+fn run(rt: &HostRuntime, bed: Bed) {
+    let mut from = Input::new(rt.stdin());
+    let mut to = Output::new(rt.stdout());
     let mut buffer = buffer();
     let mut text = [0u8; TEXT];
-    let ending = all_frames(bed, &mut buffer, &mut text);
+    let ending = all_frames(bed, &mut from, &mut buffer, &mut text, &mut to);
     match ending {
-        Ending::Ended(left) => leftover(&mut text, left),
-        Ending::Unread => input::complain(b"duckline"),
-        Ending::Unwritten => output::complain(b"duckline"),
+        Ending::Ended(left) => leftover(rt, &mut text, left, &mut to),
+        Ending::Unread => input::complain(&from, &mut rt.stderr(), b"duckline"),
+        Ending::Unwritten => output::complain(&to, &mut rt.stderr(), b"duckline"),
     }
 }
 
 // ---- arguments
 
+// Bytes that are kept of an argument.
+const WORD: usize = 4096;
+
 // Ends a line of standard error with the names of the beds and the hint at the help.
-fn hint_at_names() {
-    io::write_all(STDERR_FILENO, b": mono, stereo, 5.1 or 7.1");
-    arguments::hint(b"duckline");
+fn hint_at_names(rt: &HostRuntime) {
+    let _ = rt.eprint(": mono, stereo, 5.1 or 7.1");
+    arguments::hint(&mut rt.stderr(), b"duckline");
 }
 
 // All of the input, with the bed that the second argument names.
-fn run_named() {
-    let mut word = io::buffer();
-    let n = arguments::get(2, &mut word);
+fn run_named(rt: &HostRuntime) {
+    let mut word = [0u8; WORD];
+    let n = arguments::get(rt, 2, &mut word);
     let found = beds::find(&word[..n]);
     match found {
-        Found::Known(bed) => run(bed),
+        Found::Known(bed) => run(rt, bed),
         Found::Unknown => {
-            arguments::refuse(b"duckline", b"unknown bed", &word[..n]);
-            hint_at_names();
+            arguments::refuse(&mut rt.stderr(), b"duckline", b"unknown bed", &word[..n]);
+            hint_at_names(rt);
         }
     }
 }
 
 // `--bed` stands alone.
-fn ask_for_a_name() {
-    io::write_all(STDERR_FILENO, b"duckline: --bed needs a bed");
-    hint_at_names();
+fn ask_for_a_name(rt: &HostRuntime) {
+    let _ = rt.eprint("duckline: --bed needs a bed");
+    hint_at_names(rt);
 }
 
 // More than a name follows `--bed`.
-fn refuse_the_third() {
-    let mut word = io::buffer();
-    let n = arguments::get(3, &mut word);
-    arguments::refuse(b"duckline", b"one argument too many:", &word[..n]);
-    arguments::hint(b"duckline");
+fn refuse_the_third(rt: &HostRuntime) {
+    let mut word = [0u8; WORD];
+    let n = arguments::get(rt, 3, &mut word);
+    arguments::refuse(
+        &mut rt.stderr(),
+        b"duckline",
+        b"one argument too many:",
+        &word[..n],
+    );
+    arguments::hint(&mut rt.stderr(), b"duckline");
 }
 
-fn main() {
-    let mut word = io::buffer();
-    let n = arguments::get(1, &mut word);
-    let request = arguments::asked(os::arg_count(), &word[..n], b"--bed");
+fn main(rt: HostRuntime) {
+    let mut word = [0u8; WORD];
+    let n = arguments::get(&rt, 1, &mut word);
+    let request = arguments::asked(arguments::count(&rt), &word[..n], b"--bed");
     match request {
-        Request::Run => run(Bed::Mono),
-        Request::Help => help::print(),
-        Request::Option => run_named(),
-        Request::OptionAlone => ask_for_a_name(),
-        Request::OptionAndMore => refuse_the_third(),
+        Request::Run => run(&rt, Bed::Mono),
+        Request::Help => help::print(&rt),
+        Request::Option => run_named(&rt),
+        Request::OptionAlone => ask_for_a_name(&rt),
+        Request::OptionAndMore => refuse_the_third(&rt),
         Request::Unknown => {
-            arguments::refuse(b"duckline", b"unknown argument", &word[..n]);
-            arguments::hint(b"duckline");
+            arguments::refuse(
+                &mut rt.stderr(),
+                b"duckline",
+                b"unknown argument",
+                &word[..n],
+            );
+            arguments::hint(&mut rt.stderr(), b"duckline");
         }
     }
 }
