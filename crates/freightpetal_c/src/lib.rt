@@ -1,6 +1,6 @@
 // The calls for C and Rust. The caller lends 11,264 bytes that hold the chain's image: a call restores the chain from them, runs, and saves it
-// back. Each answers a number of the specification's table, 0 where it passed; a refusal changes nothing that is lent. library/freightpetal.h has
-// the declarations.
+// back. Each answers a number of the specification's table, 0 where it passed; a refusal changes nothing that is lent. crates/freightpetal_c_c
+// exports them.
 #![tactic(auto)]
 
 ghost use Rattle.std.specs.Prelude.{◌≡◌};
@@ -32,8 +32,7 @@ fn code(v: Verdict) -> u64
 }
 
 // A fresh chain. Refusal 6.
-#[unsafe(no_mangle)]
-pub extern "C" fn freightpetal_fresh(image: &mut [u8]) -> u64
+pub fn freightpetal_fresh(image: &mut [u8]) -> u64
     ensures { record { code = result; bytes = image.new } ≡ fresh_in image.old }
 {
     code(freightpetal::save(freightpetal::new(), image))
@@ -53,8 +52,7 @@ fn open(image: &[u8]) -> Changed
 }
 
 // Whether the bytes are an image. Refusals 6, 7, 8.
-#[unsafe(no_mangle)]
-pub extern "C" fn freightpetal_check(image: &[u8]) -> u64
+pub fn freightpetal_check(image: &[u8]) -> u64
     ensures { result ≡ code_in image.now }
 {
     let c = open(image);
@@ -79,13 +77,7 @@ fn framed(image: &mut [u8], f: Framed, answer: &mut [u64; 41]) -> u64
 }
 
 // One frame, 480 samples of the key and of each of the bed's channels, one channel after the other; its answer as 41 words. Refusals 6, 7, 8, 1, 2, 4, 5.
-#[unsafe(no_mangle)]
-pub extern "C" fn freightpetal_frame(
-    image: &mut [u8],
-    key: &[f32],
-    bed: &[f32],
-    answer: &mut [u64; 41],
-) -> u64
+pub fn freightpetal_frame(image: &mut [u8], key: &[f32], bed: &[f32], answer: &mut [u64; 41]) -> u64
     ensures { record { code = result; bytes = image.new; words = answer.new }
         ≡ frame_in image.old answer.old key.now bed.now }
 {
@@ -114,8 +106,7 @@ fn changed(image: &mut [u8], c: Changed) -> u64
 }
 
 // All settings, 12 words in the image's order; the flags, words 7 and 12, are 0 or not. Refusals 6, 7, 8, 3.
-#[unsafe(no_mangle)]
-pub extern "C" fn freightpetal_settings(image: &mut [u8], settings: &[u64; 12]) -> u64
+pub fn freightpetal_settings(image: &mut [u8], settings: &[u64; 12]) -> u64
     ensures { record { code = result; bytes = image.new } ≡ set_in image.old (settings_from settings.now) }
 {
     let c = open(image);
@@ -128,8 +119,7 @@ pub extern "C" fn freightpetal_settings(image: &mut [u8], settings: &[u64; 12]) 
 }
 
 // The key strand (0) or the bed strand (1) begins anew; the bed keeps its layout. Refusals 6, 7, 8, 9.
-#[unsafe(no_mangle)]
-pub extern "C" fn freightpetal_reset(image: &mut [u8], strand: u64) -> u64
+pub fn freightpetal_reset(image: &mut [u8], strand: u64) -> u64
     ensures { record { code = result; bytes = image.new } ≡ reset_in image.old strand }
 {
     let c = open(image);
@@ -142,8 +132,7 @@ pub extern "C" fn freightpetal_reset(image: &mut [u8], strand: u64) -> u64
 }
 
 // The bed's layout: the number of its channels, and eight times azimuth, elevation and LFE flag, of which those in use are read. Refusals 6, 7, 8, 10.
-#[unsafe(no_mangle)]
-pub extern "C" fn freightpetal_layout(image: &mut [u8], count: u64, places: &[u64; 24]) -> u64
+pub fn freightpetal_layout(image: &mut [u8], count: u64, places: &[u64; 24]) -> u64
     ensures { record { code = result; bytes = image.new } ≡ layout_in image.old (layout_from count places.now) }
 {
     let c = open(image);
@@ -159,8 +148,7 @@ pub extern "C" fn freightpetal_layout(image: &mut [u8], count: u64, places: &[u6
 }
 
 // The chain that `bytes` mean, an image of either edition, into the lent image, whatever that holds. Refusals 6, for the length of either, 7, 8.
-#[unsafe(no_mangle)]
-pub extern "C" fn freightpetal_restore(image: &mut [u8], bytes: &[u8]) -> u64
+pub fn freightpetal_restore(image: &mut [u8], bytes: &[u8]) -> u64
     ensures { record { code = result; bytes = image.new } ≡ restore_in image.old bytes.now }
 {
     if image.len() == image::BYTES {
