@@ -82,6 +82,31 @@ stages_same c l s dt =
     less-same c (with_mid l mid) s slow trim (lt zero64 trim)
     ∙ ap₂ (released c l s) (stage-same c l s mid_times l.mid (db zero64) dt) (stage-same c l s slow_times l.slow (db zero64) dt)
 
+-- our loops in a release, when the hold is lowered and before the stages
+abbrev lowered : Loops → Float → Loops
+lowered l dt = with_hold l (max_of (sub binary64 l.hold_remaining_seconds dt) zero64)
+
+-- mid is what its stage reaches by the lowered hold
+release-mid : (c : LoopBankConfig) (l : Loops) (s : MixState) (dt : Float) → (step_of (lowered l dt) c s mid_times l.mid (db zero64) dt).envelope.current ≡ (update_release l c s dt).loops.mid.0
+unfolding update_release
+release-mid c l s dt = refl
+
+-- slow, by what mid is
+release-slow : (c : LoopBankConfig) (l : Loops) (s : MixState) (dt : Float) → less_trim (step_of (lowered l dt) c s slow_times l.slow (db zero64) dt).envelope.current (max_of (sub binary64 (update_release l c s dt).loops.mid.0 l.mid.0) zero64) ≡ (update_release l c s dt).loops.slow.0
+unfolding update_release
+release-slow c l s dt = refl
+
+release-rest : (c : LoopBankConfig) (l : Loops) (s : MixState) (dt : Float) → bank_in c (with_slow (with_mid (lowered l dt) (update_release l c s dt).loops.mid.0) (update_release l c s dt).loops.slow.0) s ≡ bank_in c (update_release l c s dt).loops s
+unfolding update_release
+release-rest c l s dt = refl
+
+release-same : (c : LoopBankConfig) (l : Loops) (s : MixState) (dt : Float) → rust.release_stages (bank_in c (lowered l dt) s) dt ≡ bank_in c (update_release l c s dt).loops s
+release-same c l s dt =
+    stages_same c (lowered l dt) s dt
+    ∙ ap (λ (mid : Float). released c (lowered l dt) s mid (step_of (lowered l dt) c s slow_times l.slow (db zero64) dt).envelope.current) (release-mid c l s dt)
+    ∙ ap (λ (slow : Float). bank_in c (with_slow (with_mid (lowered l dt) (update_release l c s dt).loops.mid.0) slow) s) (release-slow c l s dt)
+    ∙ release-rest c l s dt
+
 -- any loops that hold l, whatever else they keep
 abbrev pub bank_of : LoopBankConfig → Loops → Bool → Bool → Float → rust.LoopBank
 bank_of c l r i u = rust.bank c l.slow.0 l.mid.0 l.fast.0 l.hold_remaining_seconds r i u
@@ -90,10 +115,10 @@ abbrev pub engine_of : AutomixEngineConfig → rust.LoopBank → MixState → ru
 engine_of c b s = record { config = c; loops = b; previous_state = s }
 
 pub tick-same : (config : AutomixEngineConfig) (l : Loops) (r i : Bool) (u : Float) (before s : MixState) (n : LoudnessSnapshot) (dt : Float) → rust.tick_loops (engine_of config (bank_of (loop_config config) l r i u) before) s n.bed_short_term_lufs.0 n.bed_momentary_lufs.0 n.dialogue_short_term_lufs.0 dt ≡ bank_in (loop_config config) (tick_in config l s n dt).loops s
-unfolding rust.tick_loops rust.rust_update_slow_mid rust.rust_update_release rust.rust_required_reduction rust.target_in tick_in update_release required_reduction active_target release_speedup
-tick-same config l r i u before ReleaseToUnity n dt = stages_same (loop_config config) _ ReleaseToUnity dt
+unfolding rust.tick_loops rust.rust_update_slow_mid rust.rust_update_release rust.rust_required_reduction rust.target_in tick_in required_reduction active_target release_speedup
+tick-same config l r i u before ReleaseToUnity n dt = release-same (loop_config config) l ReleaseToUnity dt
 tick-same config l r i u before DuckToTarget n dt = slow-mid-same (loop_config config) l DuckToTarget _ _ dt
-tick-same config l r i u before InterviewPassthrough n dt = stages_same (loop_config config) _ InterviewPassthrough dt
+tick-same config l r i u before InterviewPassthrough n dt = release-same (loop_config config) l InterviewPassthrough dt
 tick-same config l r i u before DuckToOvervoice n dt = slow-mid-same (loop_config config) l DuckToOvervoice _ _ dt
 
 goal_same : (c : LoopBankConfig) (l : Loops) (s : MixState) (need : Need) → rust.fast_target false (bank_in c l s) need ≡ (duck_goal l c need).0
