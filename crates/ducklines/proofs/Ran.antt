@@ -1,5 +1,5 @@
 -- One frame more in a run of frames, as a text and as the program puts it; how long the text is; and that frames leave the layout as it is.
-use Rattle.std.proofs.Common.{◌≡◌, ℕ, zero, suc, ◌+◌, ◌-◌, ◌*◌, ◌/◌, ◌%◌, ◌^◌, ◌<◌, ◌≤◌, min, List, length, take, sym, refl, ap, ◌∙◌, mul-le-mul_left, zero-add, div-mul-le_self, add-one, arith, length-append}
+use Rattle.std.proofs.Common.{◌≡◌, ℕ, zero, suc, ◌+◌, ◌*◌, ◌/◌, ◌%◌, ◌^◌, ◌<◌, ◌≤◌, min, List, length, take, sym, refl, ap, ◌∙◌, mul-le-mul_left, zero-add, div-mul-le_self, add-one, arith, length-append}
 use native.Mathlib.Nat.{lt-div-mul-add}
 use lib.Ieee.{Float}
 use Rattle.sequence.specs.History.{laid as start}
