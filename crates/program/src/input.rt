@@ -83,8 +83,8 @@ pub fn fill<R: Read>(from: &mut R, buffer: &mut [u8]) -> usize
 
 // Says why the last read failed, behind the program's name: on standard error, which is `errors`.
 pub fn complain<R, E: Write>(input: &Input<R>, errors: &mut E, program: &[u8]) {
-    let _ = errors.write_all(program);
     if let Some(why) = input.failure {
+        let _ = errors.write_all(program);
         reason::tell(errors, b": cannot read standard input", &why);
     }
 }

@@ -28,16 +28,23 @@ impl<W: Write> Output<W> {
 }
 
 // Says why the last write failed, behind the program's name: on standard error, which is `errors`. A non-blocking output that is full is such a
-// failure.
+// failure. That nobody reads any more isn't said.
 pub fn complain<W, E: Write>(output: &Output<W>, errors: &mut E, program: &[u8]) {
-    let _ = errors.write_all(program);
     let why = match output.failure {
         Some(e) => e,
         None => return,
     };
-    if why.kind() == ErrorKind::WouldBlock {
-        let _ = errors.write_all(b": cannot write standard output: it is non-blocking and full\n");
-    } else {
-        reason::tell(errors, b": cannot write standard output", &why);
+    match why.kind() {
+        ErrorKind::BrokenPipe => {}
+        ErrorKind::WouldBlock => {
+            let _ = errors.write_all(program);
+            let _ = errors.write_all(
+                b": cannot write standard output: it is non-blocking and full\n",
+            );
+        }
+        _ => {
+            let _ = errors.write_all(program);
+            reason::tell(errors, b": cannot write standard output", &why);
+        }
     }
 }

@@ -19,6 +19,8 @@ ghost use Rattle.std.specs.Prelude.{◌≤◌, length};
 
 use chain::{Chain, Changed, Framed, Verdict};
 use input::{Count, IMAGE, Letter, PLACES, STRAND, Word};
+use std::io;
+use std::io::ErrorKind;
 
 const TWO_32: u64 = 4294967296;
 
@@ -30,6 +32,7 @@ enum Ending {
     Unknown,
     Short,
     Unwritten,
+    Unread, // nobody reads the answers any more
 }
 
 // The chain after a call.
@@ -46,11 +49,12 @@ struct Stopped {
     call: u64,
 }
 
-fn ended(written: bool) -> Ending {
-    if written {
-        return Ending::Answered;
+fn ended(written: io::Result<()>) -> Ending {
+    match written {
+        Ok(()) => Ending::Answered,
+        Err(e) if e.kind() == ErrorKind::BrokenPipe => Ending::Unread,
+        Err(_) => Ending::Unwritten,
     }
-    Ending::Unwritten
 }
 
 // The frame of the first samples of two strands.
@@ -264,6 +268,7 @@ fn main(rt: HostRuntime) {
     match ending {
         Ending::Answered => {}
         Ending::NoCall => {}
+        Ending::Unread => {}
         Ending::Unknown => complain(
             &rt,
             "replay: call ",
