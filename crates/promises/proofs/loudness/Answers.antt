@@ -1,0 +1,6 @@
+-- `promises::loudness` meets its contract.
+use Rattle.promises.proofs.Hold.{loudness}
+use Rattle.promises.proofs.loudness.Goals as goal
+
+pub returns : goal.returns
+returns c = loudness
