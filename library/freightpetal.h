@@ -1,4 +1,4 @@
-/* Freightpetal's commentary ducker for C. Link target/staticlib/libfreightpetal_c.a (rt staticlib freightpetal_c), x86-64 Linux.
+/* Freightpetal's commentary ducker for C. Link target/staticlib/libfreightpetal_c.a (tools/build freightpetal_c_c), x86-64 Linux.
  *
  * Calls. The caller lends FREIGHTPETAL_IMAGE_BYTES bytes, which hold the whole chain as the image that docs/SPECIFICATION.md describes: they
  * may be kept, copied and put back at any time. Every function answers 0 or a number of enum freightpetal_refusal, for any length and any
@@ -10,7 +10,7 @@
  * Threads. The library keeps nothing itself: threads may use different images at the same time. Two calls on one image are not made at the
  * same time.
  *
- * Stack. A thread with 192 KiB can make every call, one with 184 KiB can't; musl gives a thread 128 KiB unless it asks for more.
+ * Stack. A thread with 192 KiB can make every call (160 KiB do too, 152 KiB don't); musl gives a thread 128 KiB unless it asks for more.
  *
  * Floating point. The answers are promised for the mode that a process starts with: rounding to nearest, and numbers below 2^-1022 neither
  * flushed to zero (FTZ) nor read as zero (DAZ). A program that is linked with -Ofast or -ffast-math sets FTZ and DAZ at its start, for these
