@@ -26,7 +26,7 @@ fn placed(text: &[u8], at: usize, n: usize) -> usize
 // caller shows that places don't wrap.
 fn put(text: &mut [u8; TEXT], at: usize, bytes: &[u8]) -> usize
     requires { at + length bytes.now ≤ 2 ^ 32 }
-    ensures { record { bytes = text.new; end = result } ≡ put_at text.old at bytes.entry.now }
+    ensures { record { bytes = text.new; end = result } ≡ put_at text.old at bytes.now }
 {
     let count = placed(text, at, bytes.len());
     let mut k: usize = 0;

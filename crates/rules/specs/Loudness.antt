@@ -62,7 +62,7 @@ enabled_in (h ▹ settings a) = a.values.duck.enabled
 enabled_in (h ▹ reset n) = enabled_in h
 enabled_in (h ▹ layout l) = enabled_in h
 
--- ---- what BS.1770 says of a strand's samples, with a frame more: power, momentary, short_term, fast
+-- ---- what BS.1770 says of a strand's samples, with a frame more: power, momentary, short-term, fast
 
 abbrev pub key_reads : Log Event → List Float → Reading
 key_reads h key = one-channel.bs1770 (key_heard h ++ key)
@@ -84,7 +84,7 @@ loudness_of r = record { momentary = tenths_of r.momentary.0; short_term = tenth
 abbrev pub shown_of : VadState → Shown
 shown_of s = record { momentary = s.momentary_lufs.0; short_term = s.short_term_lufs.0 }
 
--- of the ducker: short_term, LUFS, to a tenth; silence at -100 and below, and while it is off
+-- of the ducker: short-term, LUFS, to a tenth; silence at -100 and below, and while it is off
 abbrev pub reading_of : Bool → Reading → duck.Shown
 reading_of enabled r = cond enabled (cond (lt silence_lufs r.short_term.0) (Level (tenths_of r.short_term.0)) Silence) Silence
 
