@@ -118,3 +118,17 @@ mark_turn r c m t k h = go (eqb k c) refl
       where
         less : (k ≡ c → ⊥) → k < c
         less n = omega (arith, n)
+
+-- while what is left is run: what is marked is right, and the first c of m channels are marked
+pub record Resting (cs : List Channel) (xs : List Float) (old r : Run) (c m : ℕ) : Type 0 where
+  pub within : m ≤ 8
+  pub turned : c ≤ m
+  pub marked : Right cs xs old → Right cs xs r × Marked r c
+
+-- a channel that is marked is passed over
+pub rest_turn : (cs : List Channel) (xs : List Float) (old r : Run) (c m : ℕ) → Resting cs xs old r c m → c < m → get_or r.done c false ≡ true → Resting cs xs old r (c + 1) m
+rest_turn cs xs old r c m h l t = record {
+  within = h.within;
+  turned = omega (arith, l);
+  marked = λ ok. ((h.marked ok).0, mark_turn r c (h.marked ok).1 t);
+}

@@ -192,6 +192,7 @@ fn run_fours(run: Run, channels: [Channel; 8], m: usize, xs: &[f32]) -> Run
 }
 
 // What is left, each by itself.
+#[tactic(auto, using(crate::proofs::Runs::rest_turn))]
 fn run_rest(run: Run, channels: [Channel; 8], m: usize, xs: &[f32]) -> [Weighing; 8]
     requires { m ≤ most }
     ensures { Right channels xs.now run → Complete channels xs.now m result }

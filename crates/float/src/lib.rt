@@ -220,6 +220,7 @@ pub fn min(a: f64, b: f64) -> f64
 }
 
 // x, unless it is strictly below `low`, which is tried first, or strictly above `high`.
+#[tactic(auto, unfolding(crate::specs::Choice::clamp_of))]
 pub fn clamp(x: f64, low: f64, high: f64) -> f64
     ensures { result ≡ clamp_of x low high }
 {
