@@ -6,7 +6,7 @@ use Prim.Native.Nat.{ℕ, suc}
 use native.Mathlib.Omega.{arith}
 use borrow.Author.Tests.{eq-eqb}
 use lib.ListN.{length, replicate, length-replicate}
-use Rattle.demands.specs.Calls.{Log, empty, ◌▹◌, here, Bytes, Call, event, save, restore, answer, done, Reply, refusal, passed, Seen, Step, gets, Rules, Images, Calls, event_calls, all_calls, Port, Reference}
+use Rattle.demands.specs.Calls.{Log, empty, ◌▹◌, here, Bytes, Call, save, restore, answer, done, Reply, refusal, passed, Seen, Step, gets, Rules, Images, Calls, event_calls, all_calls, Port, Reference}
 use Rattle.demands.specs.Demands.{History, state_of, model_of, Passes, Story, begins, adds, keeps, said, from, seen_from, after, sees, ported, Told, Demand1, hear, heard, Demand2, Demand3b, Demand3c}
 use Rattle.demands.proofs.Events.{on_events, calls, story-calls}
 use Rattle.demands.specs.Dead.{Lived, First, now, earlier, Passing, TwoStates, TwoAnswers, Moves, Fixed, Repeats, Invents, RefusesAll, always, OneImage, RestoresNothing}

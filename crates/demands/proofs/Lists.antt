@@ -1,7 +1,7 @@
 -- Demands 1 and 2 and the histories, for whole lists of any set of calls, from what is known of one call. Assumes nothing else.
 use mathlib.Core.Path.{◌≡◌, refl, sym, ap, ◌∙◌, subst}
 use mathlib.Core.List.{List, [], ◌∷◌}
-use mathlib.Core.Logic.{◌⊎◌, ⊎_elim, inl, inr}
+use mathlib.Core.Logic.{⊎_elim, inl, inr}
 use Prim.Native.Nat.{ℕ, zero, suc}
 use Rattle.demands.specs.Calls.{Log, empty, ◌▹◌, Among, here, there, Bytes, Call, event, save, restore, lent_by, answer, done, refusal, passed, gets, Rules, owed, Calls, Port, Reference}
 use Rattle.demands.specs.Demands.{History, Save, state_of, model_of, Passes, Refused, Story, begins, adds, keeps, stays, returns, said, from, seen_from, after, sees, ported, Wrote, Proper, Demand1, heard, Demand2, Lists, SameState, Answering}
