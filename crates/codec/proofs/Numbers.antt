@@ -1,11 +1,11 @@
 -- Laws of words and finite floats, as the code tests them.
-use mathlib.Core.Path.{◌≡◌, refl}
+use mathlib.Core.Path.{◌≡◌, refl, sym}
 use mathlib.Core.Bool.{Bool, true, false, cond, not, ◌&&◌}
 use Prim.Native.Nat.{ℕ, ◌*◌, ◌%◌, ◌≤◌, ◌<◌}
 use native.Mathlib.Nat.{le_of_lt}
 use borrow.Author.Tests.{lt-ltb, le-ltb}
 use lib.Dec.{T, ltb}
-use lib.Ieee.{Format, top, of_bits, nan_bits}
+use lib.Ieee.{Format, binary32, top, of_bits, nan_bits}
 use Rattle.float.proofs.Patterns.{no-nan-pattern}
 use Rattle.codec.specs.Fields.{infinite, zero_of, num_of}
 
@@ -28,3 +28,16 @@ num_of-wide f w a = rw (le-ltb w (2 * top f) a) (go (ltb (w % top f) (infinite f
 
 pub no_nan : (f : Format) (w : ℕ) → w % top f < infinite f → T (not (nan_bits f w))
 no_nan f w h = no-nan-pattern f w (le_of_lt h)
+
+-- the same of an f32's word, as `num32` tests it
+pub num32_in : (w : ℕ) → w < 4294967296 → w % 2147483648 < 2139095040 → of_bits binary32 w ≡ num_of binary32 w
+num32_in w a b = sym (num_of_in binary32 w b a)
+
+pub num32_out : (w : ℕ) → 2139095040 ≤ w % 2147483648 → zero_of binary32 ≡ num_of binary32 w
+num32_out w a = sym (num_of-out binary32 w a)
+
+pub num32_wide : (w : ℕ) → 4294967296 ≤ w → zero_of binary32 ≡ num_of binary32 w
+num32_wide w a = sym (num_of-wide binary32 w a)
+
+pub num32_no_nan : (w : ℕ) → w % 2147483648 < 2139095040 → T (not (nan_bits binary32 w))
+num32_no_nan w a = no_nan binary32 w a

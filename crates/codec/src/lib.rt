@@ -98,6 +98,7 @@ pub fn num64(w: u64) -> f64
 }
 
 // The finite number that the low half of a word stands for, or 0; the high half has to be zero.
+#[tactic(auto, using(crate::proofs::Numbers::num32_in, crate::proofs::Numbers::num32_out, crate::proofs::Numbers::num32_wide, crate::proofs::Numbers::num32_no_nan))]
 pub fn num32(w: u64) -> f32
     ensures { result ≡ num_of binary32 w }
 {

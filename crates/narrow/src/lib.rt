@@ -33,6 +33,7 @@ fn capped(n: u64) -> u64
 }
 
 // The f32's bits below the sign, for sig * 2^exp units of 2^-1074. `narrow` shows the bounds.
+#[tactic(auto, using(crate::proofs::Rounded::no_bits))]
 fn narrow_bits(sig: u64, exp: u64) -> u64
     requires { (sig < 2 ^ 53) × (exp < 2046) }
     ensures { result ≡ narrow_bits sig exp }

@@ -1,6 +1,6 @@
 -- `narrow::narrow_bits` meets its contract, in each range of the exponent.
 use native.Mathlib.Omega.{arith}
-use Rattle.narrow.proofs.Rounded.{kept-le, normal-bits, subnormal_bits, no_bits}
+use Rattle.narrow.proofs.Rounded.{kept-le, normal-bits, subnormal_bits}
 use Rattle.narrow.proofs.narrow_bits.Goals as goal
 
 pub overflow_add-exp : goal.overflow_add-exp
@@ -9,10 +9,6 @@ overflow_add-exp c = omega (arith, c.nearest_shift.ensures, kept-le c.args.sig 8
 pub returns-then-exp-ge896 : goal.returns-then-exp-ge896
 returns-then-exp-ge896 c =
     normal-bits c.args.sig c.args.exp c.capped.result c.nearest_shift.result c.if-exp-ge896.true c.capped.ensures c.nearest_shift.ensures
-
-pub returns-then-d-ge64 : goal.returns-then-d-ge64
-returns-then-d-ge64 c =
-    no_bits c.args.sig c.args.exp c.if-exp-ge896.false c.requires.0 (omega arith)
 
 pub returns : goal.returns
 returns c =
