@@ -51,6 +51,7 @@ fn noise(seed: u64, n: u64) -> u64
 }
 
 // The syllables' loudness, 0 to 6,000: a triangle at 4 Hz for 2 s, 0 for 1 s.
+#[tactic(auto, unfolding(crate::specs::Signals::syllable_of))]
 fn syllable(n: u64) -> u64
     ensures { (result ≡ syllable_of n) × (result ≤ 6000) }
 {
