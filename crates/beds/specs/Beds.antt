@@ -1,16 +1,13 @@
 -- The beds that have a name: their channels' places, in ffmpeg's order of the layout. Definitions only.
-use Rattle.std.specs.Prelude.{ℕ, ◌-◌, ◌^◌, cond, List, [], ◌∷◌, length}
+use Rattle.std.specs.Prelude.{ℕ, ◌-◌, ◌^◌, cond, List, [], ◌∷◌, length, Option, Some, None, bytes_eq}
 use Prim.Native.String.{String}
 use Rattle.sequence.specs.History.{filled}
-use Rattle.blocks.specs.Lists.{same}
 use Rattle.program.specs.Text.{ascii}
 use Rattle.layout.specs.declared.Place.{Place}
 use Rattle.layout.specs.declared.Layout.{Layout}
 use Rattle.layout.specs.Layout.{most, blank}
 use Rattle.beds.specs.declared.Bed.{Bed}
 use Rattle.beds.specs.declared.Bed.TheVariants.{Mono, Stereo, FiveOne, SevenOne}
-use Rattle.beds.specs.declared.Found.{Found}
-use Rattle.beds.specs.declared.Found.TheVariants.{Known, Unknown}
 
 -- ---- places
 
@@ -47,9 +44,9 @@ name_of FiveOne = "5.1"
 name_of SevenOne = "7.1"
 
 -- the bed of that name
-unfoldable pub found_of : List ℕ → Found
+unfoldable pub found_of : List ℕ → Option Bed
 found_of w =
-    cond (same w (ascii (name_of Mono))) (Known Mono)
-    (cond (same w (ascii (name_of Stereo))) (Known Stereo)
-    (cond (same w (ascii (name_of FiveOne))) (Known FiveOne)
-    (cond (same w (ascii (name_of SevenOne))) (Known SevenOne) Unknown)))
+    cond (bytes_eq w (ascii (name_of Mono))) (Some Mono)
+    (cond (bytes_eq w (ascii (name_of Stereo))) (Some Stereo)
+    (cond (bytes_eq w (ascii (name_of FiveOne))) (Some FiveOne)
+    (cond (bytes_eq w (ascii (name_of SevenOne))) (Some SevenOne) None)))

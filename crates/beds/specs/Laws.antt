@@ -1,12 +1,11 @@
 -- What is promised of the beds that have a name beside the contracts: they are accepted and stored as they are, and their weights.
-use Rattle.std.specs.Prelude.{◌≡◌, List, [], ◌∷◌, ℕ, T, Float}
+use Rattle.std.specs.Prelude.{◌≡◌, List, [], ◌∷◌, ℕ, T, Float, Some}
 use Rattle.float.specs.Arithmetic.{zero64, one64}
 use Rattle.program.specs.Text.{ascii}
 use Rattle.layout.specs.Layout.{layout_within, stored_of, mono_of}
 use Rattle.layout.specs.Weights.{surround_weight, used_weights}
 use Rattle.beds.specs.declared.Bed.{Bed}
 use Rattle.beds.specs.declared.Bed.TheVariants.{Mono, Stereo, FiveOne, SevenOne}
-use Rattle.beds.specs.declared.Found.TheVariants.{Known}
 use Rattle.beds.specs.Beds.{layout_for, name_of, found_of}
 
 -- 1.41 for the channels at 90 and 110 degrees, 0 for the LFE, 1 for the others
@@ -23,5 +22,5 @@ pub record NamedBedLaws : Type 0 where
   -- a fresh chain's
   pub mono : layout_for Mono ≡ mono_of
   -- a word is a bed's where it is the bed's name, and nowhere else
-  pub named : (b : Bed) → found_of (ascii (name_of b)) ≡ Known b
-  pub no_other : (w : List ℕ) (b : Bed) → found_of w ≡ Known b → w ≡ ascii (name_of b)
+  pub named : (b : Bed) → found_of (ascii (name_of b)) ≡ Some b
+  pub no_other : (w : List ℕ) (b : Bed) → found_of w ≡ Some b → w ≡ ascii (name_of b)

@@ -15,13 +15,6 @@ pub enum Bed {
     SevenOne,
 }
 
-// What a word finds.
-#[derive(Clone, Copy)]
-pub enum Found {
-    Known(Bed),
-    Unknown,
-}
-
 // ---- places
 
 // So many degrees to the left.
@@ -62,6 +55,7 @@ const LFE: Place = Place {
 
 // ---- layouts
 
+#[tactic(auto, unfolding(crate::specs::Beds::layout_for, sequence::specs::History::filled))]
 fn stereo() -> Layout
     ensures { result ≡ layout_for Stereo }
 {
@@ -78,6 +72,7 @@ fn stereo() -> Layout
     Layout { count: 2, places }
 }
 
+#[tactic(auto, unfolding(crate::specs::Beds::layout_for, sequence::specs::History::filled))]
 fn five_one() -> Layout
     ensures { result ≡ layout_for FiveOne }
 {
@@ -94,6 +89,7 @@ fn five_one() -> Layout
     Layout { count: 6, places }
 }
 
+#[tactic(auto, unfolding(crate::specs::Beds::layout_for, sequence::specs::History::filled))]
 fn seven_one() -> Layout
     ensures { result ≡ layout_for SevenOne }
 {
@@ -112,6 +108,7 @@ fn seven_one() -> Layout
 
 impl Bed {
     // Its layout.
+    #[tactic(auto, using(crate::proofs::Beds::mono_layout))]
     pub fn layout(self) -> Layout
         ensures { result ≡ layout_for self }
     {
@@ -125,20 +122,15 @@ impl Bed {
 }
 
 // The bed that a word names.
-pub fn find(word: &[u8]) -> Found
+#[tactic(auto, unfolding(crate::specs::Beds::found_of))]
+pub fn find(word: &[u8]) -> Option<Bed>
     ensures { result ≡ found_of word.now }
 {
-    if blocks::same(word, b"mono") {
-        return Found::Known(Bed::Mono);
+    match word {
+        b"mono" => Some(Bed::Mono),
+        b"stereo" => Some(Bed::Stereo),
+        b"5.1" => Some(Bed::FiveOne),
+        b"7.1" => Some(Bed::SevenOne),
+        _ => None,
     }
-    if blocks::same(word, b"stereo") {
-        return Found::Known(Bed::Stereo);
-    }
-    if blocks::same(word, b"5.1") {
-        return Found::Known(Bed::FiveOne);
-    }
-    if blocks::same(word, b"7.1") {
-        return Found::Known(Bed::SevenOne);
-    }
-    Found::Unknown
 }

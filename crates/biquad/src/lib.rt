@@ -82,6 +82,7 @@ pub const PITCH_2: Coefficients = Coefficients {
 
 // The coefficients of a strand's six sections, in the image's order: the shelf and the high-pass of K-weighting, the speech band's two, the pitch
 // filter's two.
+#[tactic(auto, unfolding(crate::specs::Sections::sections_of))]
 pub fn sections() -> [Coefficients; 6]
     ensures { result ≡ sections_of }
 {
@@ -104,6 +105,7 @@ impl State {
     }
 
     // One sample through the section.
+    #[tactic(auto, unfolding(crate::specs::Tick::tick_of))]
     pub fn tick(mut self, c: Coefficients, x: f64) -> Ticked
         ensures { result ≡ tick_of self c x }
     {

@@ -1,17 +1,59 @@
 -- Laws of words and their bytes: what is written is read back, and what was read is written again.
-use Rattle.std.proofs.Common.{◌≡◌, ℕ, zero, suc, ◌+◌, ◌-◌, ◌*◌, ◌/◌, ◌%◌, ◌^◌, ◌<◌, List, [], ◌∷◌, ◌++◌, length, get_or, sym, refl, ap, ◌∙◌, append_assoc, append-nil, le_of_suc-le-suc, not-suc-le-zero, lt_of_not-le, arith, get_or-append-add, ext_get_or}
+use Rattle.std.proofs.Common.{◌≡◌, ℕ, zero, suc, ◌+◌, ◌-◌, ◌*◌, ◌/◌, ◌%◌, ◌^◌, ◌<◌, List, [], ◌∷◌, ◌++◌, length, get_or, drop, sym, refl, ap, ◌∙◌, append_assoc, append-nil, le_of_suc-le-suc, not-suc-le-zero, lt_of_not-le, arith, get_or-append-add, get_or-take, get_or-drop, ext_get_or}
+use Rattle.std.specs.Int.{w64, from_le_bytes, to_le_bytes}
+use Rattle.std.specs.Simd.{first_chunks}
 use native.Mathlib.Decide.{dec_le}
 use lib.ListN.{get_or-append}
 use Rattle.blocks.specs.Lists.{table, Words, Bytes}
 use Rattle.blocks.specs.Words.{word2, word4, word8, word_at, bytes2, bytes4, bytes8, bytes_of}
 use Rattle.blocks.proofs.Lists.{length-table, get_d_table}
 
--- the bytes from place i + k on, one after another
-pub next-bytes : (b : List ℕ) (i k : ℕ) → (get_or b (i + (k + 1)) 0 ≡ get_or b (i + k + 1) 0) × (get_or b (i + (k + 2)) 0 ≡ get_or b (i + k + 2) 0) × (get_or b (i + (k + 3)) 0 ≡ get_or b (i + k + 2 + 1) 0)
-next-bytes b i k = (at (i + (k + 1)) (i + k + 1) (omega arith), at (i + (k + 2)) (i + k + 2) (omega arith), at (i + (k + 3)) (i + k + 2 + 1) (omega arith))
-  where
-    at : (m n : ℕ) → m ≡ n → get_or b m 0 ≡ get_or b n 0
-    at m n e = ap (λ (j : ℕ). get_or b j 0) e
+-- a word from its bytes, the lowest first
+pub word-from : (b bytes : List ℕ) (i n : ℕ) → n ≡ from_le_bytes w64 bytes → ((k : ℕ) → k < 8 → get_or bytes k 0 ≡ get_or b (i + k) 0) → n ≡ word8 b i
+unfolding word8
+word-from b bytes i n e h =
+    let at : (j k : ℕ) → j ≡ i + k → k < 8 → get_or bytes k 0 ≡ get_or b j 0 = λ j k q l. h k l ∙ ap (λ (m : ℕ). get_or b m 0) (sym q) in
+    omega (
+      arith,
+      e,
+      at i 0 (omega arith) (omega arith),
+      at (i + 1) 1 (omega arith) (omega arith),
+      at (i + 2) 2 (omega arith) (omega arith),
+      at (i + 2 + 1) 3 (omega arith) (omega arith),
+      at (i + 4) 4 (omega arith) (omega arith),
+      at (i + 4 + 1) 5 (omega arith) (omega arith),
+      at (i + 4 + 2) 6 (omega arith) (omega arith),
+      at (i + 4 + 2 + 1) 7 (omega arith) (omega arith),
+    )
+
+-- byte j of chunk k
+pub chunk-byte : (n m : ℕ) (b d : List ℕ) (k j : ℕ) → k < m → j < n → get_or (get_or (first_chunks n m b) k d) j 0 ≡ get_or b (n * k + j) 0
+chunk-byte n zero b d k j h l = absurd (omega arith)
+chunk-byte n (suc m) b d zero j h l = get_or-take n b j 0 l ∙ ap (λ (i : ℕ). get_or b i 0) (omega arith)
+chunk-byte n (suc m) b d (suc k) j h l =
+    chunk-byte n m (drop n b) d k j (omega arith) l ∙ get_or-drop n b (n * k + j) 0 ∙ ap (λ (i : ℕ). get_or b i 0) (omega arith)
+
+-- word k of some bytes, which are cut into words
+pub word-chunk : (b : List ℕ) (words : List (List ℕ)) (k w : ℕ) → words ≡ first_chunks 8 (length b / 8) b → k < length b / 8
+    → w ≡ from_le_bytes w64 (get_or words k []) → w ≡ word_at b k
+word-chunk b words k w cut h e =
+    let chunk : get_or words k [] ≡ get_or (first_chunks 8 (length b / 8) b) k [] = ap (λ (l : List (List ℕ)). get_or l k []) cut in
+    word-from b (get_or words k []) (8 * k) w e
+    (λ j l. ap (λ (l : List ℕ). get_or l j 0) chunk ∙ chunk-byte 8 (length b / 8) b [] k j h l)
+
+-- the bytes of a word, the lowest first
+pub word-bytes : (w : ℕ) → w < 2 ^ 64 → to_le_bytes w64 w ≡ bytes8 w
+unfolding bytes8 bytes4
+word-bytes w h =
+    let e0 : w % 256 ≡ w % 4294967296 % 65536 % 256 = omega arith in
+    let e1 : w / 256 % 256 ≡ w % 4294967296 % 65536 / 256 = omega arith in
+    let e2 : w / 65536 % 256 ≡ w % 4294967296 / 65536 % 256 = omega arith in
+    let e3 : w / 16777216 % 256 ≡ w % 4294967296 / 65536 / 256 = omega arith in
+    let e4 : w / 4294967296 % 256 ≡ w / 4294967296 % 65536 % 256 = omega arith in
+    let e5 : w / 1099511627776 % 256 ≡ w / 4294967296 % 65536 / 256 = omega arith in
+    let e6 : w / 281474976710656 % 256 ≡ w / 4294967296 / 65536 % 256 = omega arith in
+    let e7 : w / 72057594037927936 % 256 ≡ w / 4294967296 / 65536 / 256 = omega arith in
+    λ i. e0 i ∷ e1 i ∷ e2 i ∷ e3 i ∷ e4 i ∷ e5 i ∷ e6 i ∷ e7 i ∷ []
 
 pub length8 : (w : ℕ) → length (bytes8 w) ≡ 8
 unfolding bytes8 bytes4

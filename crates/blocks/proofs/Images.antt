@@ -1,7 +1,7 @@
 -- Laws of images: the payload of an image, its checks and its length; and bytes whose blocks hold are the image of their payload.
-use Rattle.std.proofs.Common.{◌≡◌, ℕ, ◌+◌, ◌-◌, ◌*◌, ◌/◌, ◌%◌, ◌^◌, ◌<◌, ◌≤◌, Bool, true, false, cond, ltb, List, [], ◌∷◌, ◌++◌, length, get_or, take, drop, set, sym, refl, ap, ◌∙◌, subst, add-zero, zero-add, add-one, arith, lit<, length-drop, length-take-le, get_or-drop, ext_get_or, take-add, lt-ltb, eq-eqb, eqb-true}
+use Rattle.std.proofs.Common.{◌≡◌, ℕ, ◌+◌, ◌-◌, ◌*◌, ◌/◌, ◌%◌, ◌^◌, ◌<◌, ◌≤◌, Bool, true, false, cond, ltb, List, [], ◌∷◌, ◌++◌, length, get_or, take, drop, set, sym, refl, ap, ◌∙◌, subst, add-zero, zero-add, add-one, arith, lit<, length-drop, length-take-le, get_or-drop, ext_get_or, take-add, lt-ltb, eq-eqb, eqb-true, bytes_eq}
 use native.Mathlib.Decide.{dec_lt}
-use Rattle.blocks.specs.Lists.{table, Words, Bytes, laid, Laid, same}
+use Rattle.blocks.specs.Lists.{table, Words, Bytes, laid, Laid}
 use Rattle.blocks.specs.Words.{block_bytes, block_words, checked_words, word_at, bytes8, bytes_of, mixed, check_of, holds, blocks_in, first_bad}
 use Rattle.blocks.specs.Image.{payload_word, image_word, image_of, payload_of}
 use Rattle.blocks.proofs.Lists.{length-table, get_d_table, table_ext, table_snoc, below-table, none_yet, next, turn, laid-length, laid-all, same-both}
@@ -143,7 +143,7 @@ payload_inj n b b' l l' s s' e e' q = sym (image-of-payload b n l s e) ∙ ap (i
 
 -- words that are compared with a payload, in place of bytes with an image
 pub same-image : (n : ℕ) (p b : List ℕ) → length p ≡ checked_words * n → length b ≡ block_bytes * n → Words p → Bytes b → first_bad b ≡ n
-    → same p (payload_of b) ≡ same (image_of n p) b
+    → bytes_eq p (payload_of b) ≡ bytes_eq (image_of n p) b
 same-image n p b k l s t e =
     same-both (λ q. ap (image_of n) q ∙ image-of-payload b n l t e) (λ q. sym (image-payload p s n k) ∙ ap payload_of q)
 

@@ -1,9 +1,11 @@
--- Laws of lists of numbers: one laid over another, one made from a function, bounds of their numbers, and when two are the same.
-use Rattle.std.proofs.Common.{◌≡◌, ℕ, zero, suc, ◌+◌, ◌<◌, ◌≤◌, min, Bool, true, false, ◌&&◌, eqb, List, [], ◌∷◌, ◌++◌, map, length, get_or, take, drop, set, replicate, sym, refl, ap, ◌∙◌, subst, append-nil, le_of_suc-le-suc, not-suc-le-zero, add-zero, le_of_lt, add-suc, suc-add, lt_of_not-le, zero-add, add-one, arith, take-append-drop, drop_of_length-le, length-take-le, take_all, drop-cons, take-suc, take_at, eq-eqb, ne_eqb, eqb-true}
-use mathlib.Core.Bool.{false≢true}
+-- Laws of lists of numbers: one laid over another, one made from a function, bounds of their numbers, and comparisons of two.
+use Rattle.std.proofs.Common.{◌≡◌, ℕ, zero, suc, ◌+◌, ◌<◌, ◌≤◌, min, List, [], ◌∷◌, ◌++◌, map, length, get_or, take, drop, set, replicate, sym, refl, ap, ◌∙◌, subst, append_assoc, append-nil, le_of_suc-le-suc, not-suc-le-zero, add-zero, le_of_lt, add-suc, suc-add, lt_of_not-le, zero-add, add-one, arith, take-append-drop, drop_of_length-le, length-take-le, take_all, take-suc, take_at, drop-drop, bytes_eq}
 use native.Mathlib.Decide.{dec_le}
+use borrow.Rule.Slice.PartMut.{put_mid}
+use Rattle.std.proofs.lemmas.Bool.Decides.{same_from_decides}
+use Rattle.std.proofs.lemmas.Slice.Eq.{bytes_eq-Decides}
 use lib.Seq.{sets, length-sets, sets-eq, set_out}
-use Rattle.blocks.specs.Lists.{laid, Laid, table, Below, same}
+use Rattle.blocks.specs.Lists.{laid, Laid, table, Below}
 
 -- ---- one laid over another
 
@@ -59,6 +61,16 @@ laid-all l xs e =
 pub laid-start : (l xs : List ℕ) (n : ℕ) → length xs ≡ n → n ≤ length l → take n (laid l 0 xs) ≡ xs
 unfolding laid
 laid-start l xs n e h = ap (take n) (sets-eq xs l 0 (omega arith)) ∙ take_at xs (drop (0 + length xs) l) n e
+
+-- ys in the place of n numbers of l, from place i on
+pub laid-part : (l ys : List ℕ) (i n : ℕ) → i + n ≤ length l → length ys ≡ n → put_mid i n l ys ≡ laid l i ys
+unfolding laid
+laid-part l ys i n h e =
+    let k : i + length ys ≡ i + n = omega arith in
+    sym
+    (sets-eq ys l i (omega arith)
+    ∙ append_assoc (take i l) ys (drop (i + length ys) l)
+    ∙ ap (λ (r : List ℕ). take i l ++ (ys ++ r)) (ap (λ (m : ℕ). drop m l) k ∙ sym (drop-drop n i l)))
 
 -- one run of stores, and another right behind it
 pub next : {l l₁ l₂ xs ys : List ℕ} {i n j : ℕ} → Laid l i xs l₁ → length xs ≡ n → i + n ≡ j → Laid l₁ j ys l₂ → Laid l i (xs ++ ys) l₂
@@ -164,52 +176,9 @@ module _ (m : ℕ) where
 
 -- ---- two lists are the same
 
-and-true : (a b : Bool) → (a && b) ≡ true → (a ≡ true) × (b ≡ true)
-and-true true b e = (refl, e)
-and-true false b e = absurd (false≢true e)
-
-pub same_refl : (xs : List ℕ) → same xs xs ≡ true
-unfolding same
-same_refl [] = refl
-same_refl (x ∷ xs) = rw (eq-eqb x x refl, same_refl xs)
-
-pub same-eq : (xs ys : List ℕ) → same xs ys ≡ true → xs ≡ ys
-unfolding same
-same-eq [] [] e = refl
-same-eq [] (y ∷ ys) e = absurd (false≢true e)
-same-eq (x ∷ xs) [] e = absurd (false≢true e)
-same-eq (x ∷ xs) (y ∷ ys) e =
-    let a = and-true (eqb x y) (same xs ys) e in
-    λ i. eqb-true x y a.0 i ∷ same-eq xs ys a.1 i
-
 -- two comparisons come to the same, where each equality gives the other
-pub same-both : {a b c d : List ℕ} → (a ≡ b → c ≡ d) → (c ≡ d → a ≡ b) → same a b ≡ same c d
-same-both {a} {b} {c} {d} f g = go (same a b) refl (same c d) refl
-  where
-    go : (x : Bool) → same a b ≡ x → (y : Bool) → same c d ≡ y → x ≡ y
-    go true p true q = refl
-    go false p false q = refl
-    go true p false q = sym (same_refl d) ∙ ap (λ (z : List ℕ). same z d) (sym (f (same-eq a b p))) ∙ q
-    go false p true q = sym p ∙ ap (λ (z : List ℕ). same z b) (g (same-eq c d q)) ∙ same_refl b
-
-pub same-unlike : (a b : List ℕ) → (length a ≡ length b → ⊥) → same a b ≡ false
-same-unlike a b h = go (same a b) refl
-  where
-    go : (z : Bool) → same a b ≡ z → z ≡ false
-    go true e = absurd (h (ap length (same-eq a b e)))
-    go false e = refl
-
--- a loop that compares place by place: what is left comes to the same
-same_step : (a b : List ℕ) (k : ℕ) → k < length a → k < length b → same (drop k a) (drop k b) ≡ (eqb (get_or a k 0) (get_or b k 0) && same (drop (suc k) a) (drop (suc k) b))
-unfolding same
-same_step a b k h g = rw (drop-cons a k 0 h, drop-cons b k 0 g)
-
-pub same_next : (a b : List ℕ) (k : ℕ) → k < length a → k < length b → get_or a k 0 ≡ get_or b k 0 → same (drop k a) (drop k b) ≡ same a b → same (drop (k + 1) a) (drop (k + 1) b) ≡ same a b
-same_next a b k h g e s = rw add-one (sym (same_step a b k h g ∙ ap (λ (z : Bool). z && same (drop (suc k) a) (drop (suc k) b)) (eq-eqb (get_or a k 0) (get_or b k 0) e)) ∙ s)
-
-pub same_stop : (a b : List ℕ) (k : ℕ) → k < length a → k < length b → (get_or a k 0 ≡ get_or b k 0 → ⊥) → same (drop k a) (drop k b) ≡ same a b → false ≡ same a b
-same_stop a b k h g e s = sym (same_step a b k h g ∙ ap (λ (z : Bool). z && same (drop (suc k) a) (drop (suc k) b)) (ne_eqb (get_or a k 0) (get_or b k 0) e)) ∙ s
-
-pub same-done : (a b : List ℕ) (k : ℕ) → length a ≤ k → length b ≤ k → same (drop k a) (drop k b) ≡ same a b → true ≡ same a b
-unfolding same
-same-done a b k h g s = sym (λ i. same (drop_of_length-le a h i) (drop_of_length-le b g i)) ∙ s
+pub same-both : {a b c d : List ℕ} → (a ≡ b → c ≡ d) → (c ≡ d → a ≡ b) → bytes_eq a b ≡ bytes_eq c d
+same-both {a} {b} {c} {d} f g =
+    let p = bytes_eq-Decides a b in
+    let q = bytes_eq-Decides c d in
+    same_from_decides (bytes_eq a b) (bytes_eq c d) p ((λ t. g (q.0 t)), λ e. q.1 (f e))

@@ -1,5 +1,5 @@
 -- Lists of numbers: one laid over another, one made from a function, bounds of their numbers. Definitions only.
-use Rattle.std.specs.Prelude.{◌≡◌, ℕ, zero, suc, ◌^◌, ◌<◌, Bool, true, false, ◌&&◌, List, [], ◌∷◌, ◌==◌, slice_index}
+use Rattle.std.specs.Prelude.{◌≡◌, ℕ, zero, suc, ◌^◌, ◌<◌, List, [], ◌∷◌, slice_index}
 use Rattle.std.proofs.lemmas.List.Edits.{sets}
 
 -- l with xs laid over it from place i on. What has no place in l is dropped.
@@ -25,10 +25,3 @@ Words l = Below (2 ^ 64) l
 
 abbrev pub Bytes : List ℕ → Type 0
 Bytes l = Below 256 l
-
--- two lists are the same
-unfoldable pub same : List ℕ → List ℕ → Bool
-same [] [] = true
-same [] (y ∷ ys) = false
-same (x ∷ xs) [] = false
-same (x ∷ xs) (y ∷ ys) = x == y && same xs ys

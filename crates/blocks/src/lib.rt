@@ -2,7 +2,7 @@
 #![tactic(auto)]
 
 ghost use Rattle.std.specs.Prelude.{◌≡◌, ◌+◌, ◌*◌, ◌<◌, ◌≤◌, length, take, drop, slice_index};
-ghost use Rattle.blocks.specs.Lists.{laid, Laid, same};
+ghost use Rattle.blocks.specs.Lists.{laid, Laid};
 ghost use Rattle.blocks.specs.Words.{
   checked_words,
   rotated,
@@ -39,50 +39,42 @@ pub fn first_bad(b: &[u8]) -> usize
     ensures { result ≡ first_bad b.now }
 {
     let n = b.len() / BLOCK_BYTES;
-    let mut block: usize = 0;
-    'blocks: while block < n {
+    let (words, _) = b.as_chunks::<8>();
+    let mut bad = n;
+    'blocks: for block in 0..n {
         let mut check = block as u64;
-        let mut j: usize = 0;
-        while j < BLOCK_WORDS {
-            let w = little_endian::whole8(b, 8 * (BLOCK_WORDS * block + j));
+        for j in 0..BLOCK_WORDS {
+            let w = u64::from_le_bytes(words[BLOCK_WORDS * block + j]);
             if j < CHECKED_WORDS {
                 check = mixed(check, w);
-            } else {
-                if check != w {
-                    break 'blocks;
-                }
+            } else if check != w {
+                bad = block;
+                break 'blocks;
             }
-            j += 1;
         }
-        block += 1;
     }
-    block
+    bad
 }
 
 // The payload's word k; one that is missing counts as 0.
 fn word_or_zero(p: &[u64], k: usize) -> u64
     ensures { result ≡ slice_index p.now k }
 {
-    if k < p.len() { p[k] } else { 0 }
+    p.get(k).copied().unwrap_or(0)
 }
 
 // The image of the payload p, in the whole blocks of b. Bytes after them stay.
 pub fn write_image(p: &[u64], b: &mut [u8])
     ensures { b.new ≡ laid b.old 0 (image_of (blocks_in b.old) p.now) }
 {
-    let n = b.len() / BLOCK_BYTES;
-    let mut block: usize = 0;
-    while block < n {
+    for block in 0..b.len() / BLOCK_BYTES {
         let mut check: u64 = block as u64;
-        let mut j: usize = 0;
-        while j < CHECKED_WORDS {
+        for j in 0..CHECKED_WORDS {
             let w = word_or_zero(p, CHECKED_WORDS * block + j);
             check = mixed(check, w);
             little_endian::write8(b, 8 * (BLOCK_WORDS * block + j), w);
-            j += 1;
         }
         little_endian::write8(b, 8 * (BLOCK_WORDS * block + CHECKED_WORDS), check);
-        block += 1;
     }
 }
 
@@ -91,10 +83,9 @@ fn block_payload(b: &[u8], block: usize, n: usize, w: &mut [u64])
     requires { (block < blocks_in b.now) × (n ≤ checked_words) × (checked_words * block + n ≤ length w.old) }
     ensures { Laid w.old (checked_words * block) (take n (drop (checked_words * block) (payload_of b.now))) w.new }
 {
-    let mut j: usize = 0;
-    while j < n {
-        w[CHECKED_WORDS * block + j] = little_endian::whole8(b, 8 * (BLOCK_WORDS * block + j));
-        j += 1;
+    let (words, _) = b.as_chunks::<8>();
+    for j in 0..n {
+        w[CHECKED_WORDS * block + j] = u64::from_le_bytes(words[BLOCK_WORDS * block + j]);
     }
 }
 
@@ -102,49 +93,8 @@ fn block_payload(b: &[u8], block: usize, n: usize, w: &mut [u64])
 pub fn payload(b: &[u8], w: &mut [u64])
     ensures { w.new ≡ laid w.old 0 (payload_of b.now) }
 {
-    let n = sequence::least(w.len(), CHECKED_WORDS * (b.len() / BLOCK_BYTES));
-    let mut block: usize = 0;
-    while CHECKED_WORDS * block < n {
-        block_payload(
-            b,
-            block,
-            sequence::least(CHECKED_WORDS, n - CHECKED_WORDS * block),
-            w,
-        );
-        block += 1;
+    let n = w.len().min(CHECKED_WORDS * (b.len() / BLOCK_BYTES));
+    for block in 0..n.div_ceil(CHECKED_WORDS) {
+        block_payload(b, block, CHECKED_WORDS.min(n - CHECKED_WORDS * block), w);
     }
-}
-
-// Whether two runs of bytes are the same.
-pub fn same(a: &[u8], b: &[u8]) -> bool
-    ensures { result ≡ same a.now b.now }
-{
-    if a.len() != b.len() {
-        return false;
-    }
-    let mut k: usize = 0;
-    while k < a.len() {
-        if a[k] != b[k] {
-            return false;
-        }
-        k += 1;
-    }
-    true
-}
-
-// Whether two runs of words are the same.
-pub fn same_words(a: &[u64], b: &[u64]) -> bool
-    ensures { result ≡ same a.now b.now }
-{
-    if a.len() != b.len() {
-        return false;
-    }
-    let mut k: usize = 0;
-    while k < a.len() {
-        if a[k] != b[k] {
-            return false;
-        }
-        k += 1;
-    }
-    true
 }

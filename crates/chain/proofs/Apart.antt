@@ -2,10 +2,8 @@
 use Prim.Native.Nat.{ℕ, ◌*◌, ◌≤◌}
 use native.Mathlib.Omega.{arith}
 use mathlib.Core.Path.{◌≡◌, refl, sym, ap, ◌∙◌}
-use mathlib.Core.Bool.{Bool, true, ◌&&◌}
 use mathlib.Core.List.{List, map, foldl}
-use lib.Dec.{T, eqb}
-use borrow.Author.Tests.{eqb-true}
+use lib.Dec.{T}
 use lib.ListN.{length, length-take}
 use lib.Seq.{take_all}
 use Rattle.sequence.specs.History.{laid}
@@ -29,9 +27,8 @@ use Rattle.paired_filters.specs.Pairs.{weighed_of, weighing_at, banded_of, bands
 use Rattle.vad.specs.declared.VadSettings.{VadSettings}
 use Rattle.vad.specs.declared.Strand.{Strand}
 use Rattle.vad.specs.Strand as strand
-use Rattle.sequence.proofs.Tests.{both, told}
 use Rattle.chain.specs.declared.Chain.{Chain}
-use Rattle.chain.specs.StrandFrames.{Whole, filters_of, pitch_of, finished_of, strand_of}
+use Rattle.chain.specs.StrandFrames.{filters_of, pitch_of, finished_of, strand_of}
 use Rattle.chain.specs.Chain.{first_channel, bed_strand_of}
 
 -- ---- a strand of n channels, whose detector hears the first
@@ -80,17 +77,3 @@ module _ (c : Chain) (key bed : List Float) (f : Filtered) (e : f ≡ filters_of
   pub bed-bands : bands_at f.banded Bed ≡ foldl filters.step_of (filters.begun c.bed.detector.filters) (filters.samples_of bed)
   unfolding filters_of filtered_of banded_of
   bed-bands = ap (λ (f : Filtered). bands_at f.banded Bed) e
-
--- ---- what `frame` has tested
-
-pub whole-frame : (n m : ℕ) (key bed : List Float) (p q : Bool) → m ≡ n * frame_length → eqb (length key) frame_length && eqb (length bed) m ≡ true
-    → p ≡ all_finite key → q ≡ all_finite bed → p && q ≡ true → Whole n key bed
-whole-frame n m key bed p q size l e f h =
-    let n = both (eqb (length key) frame_length) (eqb (length bed) m) l in
-    let s = both p q h in
-    record {
-      key_length = eqb-true (length key) frame_length n.0;
-      bed_length = eqb-true (length bed) m n.1 ∙ size;
-      key_samples = told (all_finite key) (sym e ∙ s.0);
-      bed_samples = told (all_finite bed) (sym f ∙ s.1);
-    }

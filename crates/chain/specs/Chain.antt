@@ -1,5 +1,5 @@
 -- A chain's calls: fresh, a frame, a settings call, a reset, a layout call. A refused call leaves the chain as it was.
-use Rattle.std.specs.Prelude.{ℕ, ◌*◌, Bool, cond, ◌&&◌, ◌||◌, List, eqb, length, take, Float}
+use Rattle.std.specs.Prelude.{ℕ, ◌*◌, Bool, cond, ◌&&◌, ◌||◌, List, eqb, length, take, Float, Result, Ok, Err}
 use Rattle.refusal.specs.declared.Refusal.{Refusal}
 use Rattle.refusal.specs.declared.Refusal.TheVariants.{ShortFrame, BadSample, BadSetting, Runaway, CounterFull, NoStrand, BadLayout}
 use Rattle.level.specs.Bs1770.{frame_length}
@@ -21,9 +21,7 @@ use Rattle.ratio.specs.Frame as ratio
 use Rattle.settings.specs.declared.Settings.{Settings}
 use Rattle.chain.specs.declared.Chain.{Chain}
 use Rattle.chain.specs.declared.Answer.{Answer}
-use Rattle.chain.specs.declared.Outcome.TheVariants as outcome
 use Rattle.chain.specs.declared.Framed.{Framed}
-use Rattle.chain.specs.declared.Verdict.TheVariants as verdict
 use Rattle.chain.specs.declared.Changed.{Changed}
 use Rattle.chain.specs.declared.Worked.{Worked}
 use Rattle.settings.specs.Settings.{call_ranges, outside_settings, stored_of, fresh_settings}
@@ -80,7 +78,7 @@ work_of c key bed =
     (bed_level_of c bed).surround
 
 unfoldable pub refused_of : Chain → Refusal → Framed
-refused_of c r = record { chain = c; outcome = outcome.Refused r }
+refused_of c r = record { chain = c; outcome = Err r }
 
 -- the chain and the answer where the frame passes
 abbrev pub kept_of : Chain → Worked → Chain
@@ -90,7 +88,7 @@ abbrev pub answer_of : Worked → Answer
 answer_of w = record { reduction = w.duck.reduction; status = w.duck.status; key = w.key.state; bed = w.bed.state }
 
 unfoldable pub passed_of : Chain → Worked → Framed
-passed_of c w = record { chain = kept_of c w; outcome = outcome.Passed (answer_of w) }
+passed_of c w = record { chain = kept_of c w; outcome = Ok (answer_of w) }
 
 -- every number that would be stored, answered or handed to a stand-in is finite
 abbrev pub finite_in : Worked → Bool
@@ -99,6 +97,10 @@ finite_in w = (w.key.finite && w.bed.finite) && w.duck.finite
 -- an onset would pass the limit
 abbrev pub full_in : Worked → Bool
 full_in w = w.key.full || w.bed.full
+
+-- whether what was worked out can be kept
+abbrev pub verdict_of : Worked → Result Unit Refusal
+verdict_of w = cond (finite_in w) (cond (full_in w) (Err CounterFull) (Ok tt)) (Err Runaway)
 
 unfoldable pub judged_of : Chain → Worked → Framed
 judged_of c w = cond (finite_in w) (cond (full_in w) (refused_of c CounterFull) (passed_of c w)) (refused_of c Runaway)
@@ -117,6 +119,10 @@ whole_frame c key bed = eqb (length key) frame_length && eqb (length bed) (bed_l
 abbrev pub sound_frame : List Float → List Float → Bool
 sound_frame key bed = all_finite key && all_finite bed
 
+-- whether a frame can be heard
+abbrev pub heard_of : Chain → List Float → List Float → Result Unit Refusal
+heard_of c key bed = cond (whole_frame c key bed) (cond (sound_frame key bed) (Ok tt) (Err BadSample)) (Err ShortFrame)
+
 unfoldable pub frame_of : Chain → List Float → List Float → Framed
 frame_of c key bed =
     cond (whole_frame c key bed) (cond (sound_frame key bed) (judged_of c (work_of c key bed)) (refused_of c BadSample)) (refused_of c ShortFrame)
@@ -124,10 +130,10 @@ frame_of c key bed =
 -- ---- a settings call, a reset and a layout call
 
 abbrev pub changed : Chain → Changed
-changed c = record { chain = c; verdict = verdict.Passed }
+changed c = record { chain = c; verdict = Ok tt }
 
 abbrev pub unchanged : Chain → Refusal → Changed
-unchanged c r = record { chain = c; verdict = verdict.Refused r }
+unchanged c r = record { chain = c; verdict = Err r }
 
 unfoldable pub set_of : Chain → Settings → Changed
 set_of c s = cond (outside_settings call_ranges s) (unchanged c BadSetting) (changed (with_settings c (stored_of s)))

@@ -1,15 +1,11 @@
 -- Every float that a chain stores.
-use Rattle.std.specs.Prelude.{List, [], ◌∷◌, ◌++◌, Float}
+use Rattle.std.specs.Prelude.{List, [], ◌∷◌, ◌++◌, Float, option_to_list}
 use Rattle.level.specs.declared.Level.{Level}
 use Rattle.channels.specs.declared.Channel.{Channel}
 use Rattle.detector.specs.declared.FeatureDetector.{FeatureDetector}
-use Rattle.detector.specs.declared.floor.Smoothed.{Smoothed}
-use Rattle.detector.specs.declared.floor.Smoothed.TheVariants as smoothed
 use Rattle.detector.specs.Filters.{states_of}
 use Rattle.vad.specs.declared.VadSettings.{VadSettings}
 use Rattle.vad.specs.declared.Decision.{Decision}
-use Rattle.vad.specs.declared.SpeechPower.{SpeechPower}
-use Rattle.vad.specs.declared.SpeechPower.TheVariants as speech
 use Rattle.vad.specs.declared.Strand.{Strand}
 use Rattle.comis.specs.declared.loop_bank.Loops.{Loops}
 use Rattle.ratio.specs.declared.Duck.{Duck}
@@ -28,20 +24,12 @@ of_settings s = of_strand_settings s.key ++ of_strand_settings s.bed ++ of_duck 
 abbrev pub of_level : Level → List Float
 of_level l = (l.shelf.z1 ∷ l.shelf.z2 ∷ l.high_pass.z1 ∷ l.high_pass.z2 ∷ l.fast ∷ []) ++ l.powers.list
 
-abbrev pub of_smoothed : Smoothed → List Float
-of_smoothed smoothed.Unset = []
-of_smoothed (smoothed.At x) = x ∷ []
-
 abbrev pub of_detector : FeatureDetector → List Float
 of_detector d =
-    states_of d.filters ++ d.decimated.list ++ of_smoothed d.floor.smoothed ++ (d.floor.window_min ∷ []) ++ d.floor.minima.list ++ d.history.list
-
-abbrev pub of_power : SpeechPower → List Float
-of_power speech.Unset = []
-of_power (speech.At x) = x ∷ []
+    states_of d.filters ++ d.decimated.list ++ option_to_list d.floor.smoothed ++ (d.floor.window_min ∷ []) ++ d.floor.minima.list ++ d.history.list
 
 abbrev pub of_decision : Decision → List Float
-of_decision d = d.probability ∷ of_power d.power
+of_decision d = d.probability ∷ option_to_list d.power
 
 abbrev pub of_strand : Strand → List Float
 of_strand t = of_level t.level ++ of_detector t.detector ++ of_decision t.decision

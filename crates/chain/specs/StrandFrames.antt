@@ -28,8 +28,8 @@ pub record Whole (n : ℕ) (key bed : List Float) : Type 0 where
 unfoldable pub filters_of : Chain → List Float → List Float → Filtered
 filters_of c key bed =
     filtered_of
-    (record { key = level.start_of c.key.level; bed = level.start_of c.bed.level })
-    (record { key = filters.begun c.key.detector.filters; bed = filters.begun c.bed.detector.filters })
+    (record { first = level.start_of c.key.level; second = level.start_of c.bed.level })
+    (record { first = filters.begun c.key.detector.filters; second = filters.begun c.bed.detector.filters })
     (filters.samples_of key)
     (filters.samples_of bed)
 

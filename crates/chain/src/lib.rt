@@ -8,14 +8,15 @@ ghost use Rattle.level.specs.Weighing.{run_of};
 ghost use Rattle.level.specs.Level.{start_of};
 ghost use Rattle.paired_filters.specs.Pairs.{weighing_at, bands_at};
 ghost use Rattle.chain.specs.StrandFrames.{Whole, filters_of, pitch_of, finished_of};
-ghost use Rattle.chain.specs.Chain.{fresh_of, inputs_of, work_of, refused_of, passed_of, frame_of, set_of, reset_of, channel_count, bed_length, layout_of};
+ghost use Rattle.chain.specs.Chain.{fresh_of, inputs_of, work_of, refused_of, passed_of, verdict_of, heard_of, frame_of, set_of, reset_of, channel_count, bed_length, layout_of};
 
 use channels::Surround;
 use comis::loop_bank::Loops;
 use float::Db;
 use layout::Layout;
 use level::{FRAME, Level};
-use paired_filters::{Banded, BandedPairs, Filtered, Side, Weighed, WeighedPairs};
+use paired_filters::{BandedPairs, Filtered, Side};
+use pairs::{Pair, WeighedPairs};
 use ratio::{Inputs, RatioStatus};
 use refusal::Refusal;
 use settings::Settings;
@@ -39,30 +40,18 @@ pub struct Answer {
     pub bed: VadState,
 }
 
-#[derive(Clone, Copy)]
-pub enum Outcome {
-    Passed(Answer),
-    Refused(Refusal),
-}
-
 // The chain after a frame, and what the frame got.
 #[derive(Clone, Copy)]
 pub struct Framed {
     pub chain: Chain,
-    pub outcome: Outcome,
-}
-
-#[derive(Clone, Copy)]
-pub enum Verdict {
-    Passed,
-    Refused(Refusal),
+    pub outcome: Result<Answer, Refusal>,
 }
 
 // The chain after a settings call, a reset or a layout call, and what the call got.
 #[derive(Clone, Copy)]
 pub struct Changed {
     pub chain: Chain,
-    pub verdict: Verdict,
+    pub verdict: Result<(), Refusal>,
 }
 
 // A strand after a frame, and its channels.
@@ -84,6 +73,7 @@ pub struct Worked {
 // What follows the filters of one strand, which have heard its first channel: both strands' filters, which of them it is, the outputs of its pitch
 // filter, and the samples of all its channels. The key is the case of one channel. Called for both strands, this stays a function of its own, so that
 // the compiler stores what the filters leave in pairs and computes both strands with one instruction.
+#[tactic(auto, unfolding(crate::specs::StrandFrames::finished_of))]
 fn finished(
     t: Strand,
     surround: Surround,
@@ -96,32 +86,42 @@ fn finished(
 ) -> StrandFrame
     ensures { weighing_at weighed side ≡ run_of (start_of t.level) (take frame_length xs.now) → result ≡ finished_of t surround (bands_at banded side) pitch.now xs.now settings }
 {
-    let l = surround.frame(weighed.strand(side), t.level, xs);
-    let h = t.detector.finish(banded.strand(side), pitch);
-    let next = l.surround;
+    let l = surround.frame(side.weighing(weighed), t.level, xs);
+    let h = t.detector.finish(side.bands(banded), pitch);
     StrandFrame {
         framed: vad::finish(t.decision, l.framed, h, settings),
-        surround: next,
+        surround: l.surround,
     }
 }
 
 // What the ducker reads of the two strands after a frame.
+#[tactic(auto, unfolding(crate::specs::Chain::inputs_of))]
 fn inputs(key: vad::Framed, bed: vad::Framed) -> Inputs
     ensures { result ≡ inputs_of key bed }
 {
-    let dialogue = key.reading;
-    let readings = bed.reading;
-    let dialogue_short_term = dialogue.short_term;
-    let bed_short_term = readings.short_term;
-    let bed_momentary = readings.momentary;
-    let bed_fast = readings.fast;
     Inputs {
         key_voice: key.state.speech_active,
         target_voice: bed.state.speech_active,
-        dialogue_short_term,
-        bed_short_term,
-        bed_momentary,
-        bed_fast,
+        dialogue_short_term: key.reading.short_term,
+        bed_short_term: bed.reading.short_term,
+        bed_momentary: bed.reading.momentary,
+        bed_fast: bed.reading.fast,
+    }
+}
+
+impl Worked {
+    // Whether all of it can be kept. Refusals 4 and 5, over both strands.
+    fn judged(&self) -> Result<(), Refusal>
+        ensures { result ≡ verdict_of self.now }
+    {
+        let finite = self.key.finite && self.bed.finite && self.duck.finite;
+        if !finite {
+            return Err(Refusal::Runaway);
+        }
+        if self.key.full || self.bed.full {
+            return Err(Refusal::CounterFull);
+        }
+        Ok(())
     }
 }
 
@@ -130,21 +130,17 @@ impl Chain {
     pub fn new() -> Self
         ensures { result ≡ fresh_of }
     {
-        let settings = Settings::new();
-        let key = Strand::new();
-        let bed = Strand::new();
-        let surround = Surround::new();
         Self {
-            settings,
-            key,
-            bed,
+            settings: Settings::new(),
+            key: Strand::new(),
+            bed: Strand::new(),
             loops: Loops {
                 slow: Db(0.0),
                 mid: Db(0.0),
                 fast: Db(0.0),
                 hold_remaining_seconds: 0.0,
             },
-            surround,
+            surround: Surround::new(),
         }
     }
 
@@ -160,16 +156,16 @@ impl Chain {
         ensures { (result ≡ filters_of self key.now bed.now) × (key_pitch.new ≡ pitch_of self.key key.now)
             × (bed_pitch.new ≡ pitch_of self.bed bed.now) }
     {
-        let weighed = Weighed {
-            key: self.key.level.start(),
-            bed: self.bed.level.start(),
+        let weighed = Pair {
+            first: self.key.level.start(),
+            second: self.bed.level.start(),
         };
-        let banded = Banded {
-            key: self.key.detector.filters.begin(),
-            bed: self.bed.detector.filters.begin(),
+        let banded = Pair {
+            first: self.key.detector.filters.begin(),
+            second: self.bed.detector.filters.begin(),
         };
-        let mut xs = detector::no_samples();
-        let mut ys = detector::no_samples();
+        let mut xs = [0.0; FRAME];
+        let mut ys = [0.0; FRAME];
         detector::samples(key, &mut xs);
         detector::samples(bed, &mut ys);
         paired_filters::filter_frame(weighed, banded, &xs, &ys, key_pitch, bed_pitch)
@@ -180,17 +176,14 @@ impl Chain {
         requires { Whole (channel_count self) key.now bed.now }
         ensures { result ≡ work_of self key.now bed.now }
     {
-        let mut key_pitch = detector::no_samples();
-        let mut bed_pitch = detector::no_samples();
+        let mut key_pitch = [0.0; FRAME];
+        let mut bed_pitch = [0.0; FRAME];
         let f = self.filtered(key, bed, &mut key_pitch, &mut bed_pitch);
-        let weighed = f.weighed;
-        let banded = f.banded;
-        let one = Surround::new();
         let key_frame = finished(
             self.key,
-            one,
-            weighed,
-            banded,
+            Surround::new(),
+            f.weighed,
+            f.banded,
             Side::Key,
             &key_pitch,
             key,
@@ -199,63 +192,55 @@ impl Chain {
         let bed_frame = finished(
             self.bed,
             self.surround,
-            weighed,
-            banded,
+            f.weighed,
+            f.banded,
             Side::Bed,
             &bed_pitch,
             bed,
             self.settings.bed,
         );
-        let k = key_frame.framed;
-        let b = bed_frame.framed;
-        let surround = bed_frame.surround;
+        let duck = ratio::frame(
+            self.loops,
+            self.settings.duck,
+            inputs(key_frame.framed, bed_frame.framed),
+        );
         Worked {
-            key: k,
-            bed: b,
-            surround,
-            duck: ratio::frame(self.loops, self.settings.duck, inputs(k, b)),
+            key: key_frame.framed,
+            bed: bed_frame.framed,
+            surround: bed_frame.surround,
+            duck,
         }
     }
 
     // The frame is refused, and the chain stays as it was.
+    #[tactic(auto, unfolding(crate::specs::Chain::refused_of))]
     fn refused(self, refusal: Refusal) -> Framed
         ensures { result ≡ refused_of self refusal }
     {
         Framed {
             chain: self,
-            outcome: Outcome::Refused(refusal),
+            outcome: Err(refusal),
         }
     }
 
     // The frame passes: what was worked out is kept.
+    #[tactic(auto, unfolding(crate::specs::Chain::passed_of))]
     fn passed(self, w: Worked) -> Framed
         ensures { result ≡ passed_of self w }
     {
-        let settings = self.settings;
-        let k = w.key;
-        let b = w.bed;
-        let d = w.duck;
-        let key = k.strand;
-        let bed = b.strand;
-        let loops = d.loops;
-        let surround = w.surround;
-        let reduction = d.reduction;
-        let status = d.status;
-        let key_state = k.state;
-        let bed_state = b.state;
         Framed {
             chain: Chain {
-                settings,
-                key,
-                bed,
-                loops,
-                surround,
+                key: w.key.strand,
+                bed: w.bed.strand,
+                loops: w.duck.loops,
+                surround: w.surround,
+                ..self
             },
-            outcome: Outcome::Passed(Answer {
-                reduction,
-                status,
-                key: key_state,
-                bed: bed_state,
+            outcome: Ok(Answer {
+                reduction: w.duck.reduction,
+                status: w.duck.status,
+                key: w.key.state,
+                bed: w.bed.state,
             }),
         }
     }
@@ -267,92 +252,105 @@ impl Chain {
         layout::channel_count(self.surround.layout.count) * FRAME
     }
 
+    // Whether a frame can be heard. Refusals 1 and 2, over both strands.
+    fn heard(self, key: &[f32], bed: &[f32]) -> Result<(), Refusal>
+        ensures { result ≡ heard_of self key.now bed.now }
+    {
+        if key.len() != FRAME || bed.len() != self.bed_length() {
+            return Err(Refusal::ShortFrame);
+        }
+        if !float::all_finite(key) || !float::all_finite(bed) {
+            return Err(Refusal::BadSample);
+        }
+        Ok(())
+    }
+
     // One frame: 480 samples of the key, and of each of the bed's channels, one channel after the other. Refusals 1, 2, 4, 5, in this order over both
-    // strands.
+    // strands; a refusal leaves the chain as it was. What was worked out stays in its place while it is judged: a Result of it would be one copy more.
+    #[tactic(auto, unfolding(crate::specs::Chain::frame_of, crate::specs::Chain::refused_of))]
     pub fn frame(self, key: &[f32], bed: &[f32]) -> Framed
         ensures { result ≡ frame_of self key.now bed.now }
     {
-        let whole = (key.len() == FRAME) & (bed.len() == self.bed_length());
-        if !whole {
-            return self.refused(Refusal::ShortFrame);
-        }
-        let sound = float::all_finite32(key) & float::all_finite32(bed);
-        if !sound {
-            return self.refused(Refusal::BadSample);
+        if let Err(refusal) = self.heard(key, bed) {
+            return self.refused(refusal);
         }
         let w = self.work(key, bed);
-        let finite = w.key.finite & w.bed.finite & w.duck.finite;
-        if !finite {
-            return self.refused(Refusal::Runaway);
+        match w.judged() {
+            Ok(()) => self.passed(w),
+            Err(refusal) => self.refused(refusal),
         }
-        if w.key.full | w.bed.full {
-            return self.refused(Refusal::CounterFull);
-        }
-        self.passed(w)
     }
 
     // All settings are replaced, negative zero by zero. Refusal 3.
+    #[tactic(auto, unfolding(crate::specs::Chain::set_of))]
     pub fn set(self, s: Settings) -> Changed
         ensures { result ≡ set_of self s }
     {
         if s.outside_call() {
             return Changed {
                 chain: self,
-                verdict: Verdict::Refused(Refusal::BadSetting),
+                verdict: Err(Refusal::BadSetting),
             };
         }
-        let mut chain = self;
-        chain.settings = settings::stored(s);
         Changed {
-            chain,
-            verdict: Verdict::Passed,
+            chain: Chain {
+                settings: settings::stored(s),
+                ..self
+            },
+            verdict: Ok(()),
         }
     }
 
-    // The key strand (0) or the bed strand (1) begins anew, its counts apart; the bed keeps its layout. Refusal 9.
+    // The key strand (0) or the bed strand (1) begins anew, its counts apart; the bed keeps its layout. Refusal 9: a strand is a number here, as a call
+    // brings it, so that the calls of any interface share this test.
+    #[tactic(auto, unfolding(crate::specs::Chain::reset_of))]
     pub fn reset(self, strand: u64) -> Changed
         ensures { result ≡ reset_of self strand }
     {
-        let mut chain = self;
-        if strand == 0 {
-            chain.key = self.key.reset();
-            return Changed {
-                chain,
-                verdict: Verdict::Passed,
-            };
-        }
-        if strand == 1 {
-            chain.bed = self.bed.reset();
-            chain.surround = Surround::of(self.surround.layout);
-            return Changed {
-                chain,
-                verdict: Verdict::Passed,
-            };
-        }
+        let chain = match strand {
+            0 => Chain {
+                key: self.key.reset(),
+                ..self
+            },
+            1 => Chain {
+                bed: self.bed.reset(),
+                surround: Surround::of(self.surround.layout),
+                ..self
+            },
+            _ => {
+                return Changed {
+                    chain: self,
+                    verdict: Err(Refusal::NoStrand),
+                };
+            }
+        };
         Changed {
-            chain: self,
-            verdict: Verdict::Refused(Refusal::NoStrand),
+            chain,
+            verdict: Ok(()),
         }
     }
 
     // The bed's layout is replaced, and its level begins anew; all else of the bed stays. Refusal 10.
+    #[tactic(auto, unfolding(crate::specs::Chain::layout_of))]
     pub fn layout(self, l: Layout) -> Changed
         ensures { result ≡ layout_of self l }
     {
-        if l.within() {
-            let mut bed = self.bed;
-            bed.level = Level::new();
-            let mut chain = self;
-            chain.bed = bed;
-            chain.surround = Surround::of(l.stored());
+        if !l.within() {
             return Changed {
-                chain,
-                verdict: Verdict::Passed,
+                chain: self,
+                verdict: Err(Refusal::BadLayout),
             };
         }
         Changed {
-            chain: self,
-            verdict: Verdict::Refused(Refusal::BadLayout),
+            chain: Chain {
+                bed: Strand {
+                    level: Level::new(),
+                    ..self.bed
+                },
+                surround: Surround::of(l.stored()),
+                ..self
+            },
+            verdict: Ok(()),
         }
     }
 }

@@ -1,8 +1,9 @@
 -- One channel, of any weight; and of weight 1, which is the key's level in its state, its readings and whether it is finite.
 use Prim.Native.Nat.{ℕ}
 use native.Mathlib.Omega.{arith}
-use mathlib.Core.Bool.{Bool, true, false, ◌&&◌}
-use mathlib.Core.Path.{◌≡◌, refl, ap, sym, ◌∙◌}
+use mathlib.Core.Bool.{◌&&◌}
+use Rattle.std.proofs.Math.Bool.{and-true}
+use mathlib.Core.Path.{◌≡◌, ap, sym, ◌∙◌}
 use mathlib.Core.List.{List, [], ◌∷◌}
 use lib.ListN.{length, take}
 use lib.Seq.{take_all}
@@ -24,10 +25,6 @@ use Rattle.channels.specs.Channels.{begin_of, kept_of, parts, weighings, weighin
 use Rattle.channels.specs.Surround.{joint_of, bed_framed_of, bed_frame_of, filtered_by, filtered_of, filtered_one}
 use Rattle.channels.specs.Heard.{OneIsLevel, MonoIsLevel}
 use Rattle.channels.proofs.Weighings.{weighings-none}
-
-and-true : (b : Bool) → b && true ≡ b
-and-true true = refl
-and-true false = refl
 
 module _ (l : Level) (s : Surround) (weight : Float) where
   -- what the level's own channel comes to, its filters after the frame being w

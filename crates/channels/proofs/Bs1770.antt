@@ -14,14 +14,15 @@ use Rattle.level.proofs.Finite.{all_and}
 use Rattle.level.proofs.Bs1770.{clean-finite}
 use Rattle.biquad.specs.Sections.{k_shelf, k_high_pass}
 use Rattle.sequence.specs.History.{latest, pushed}
-use Rattle.sequence.proofs.Latest.{pushed-latest}
+use Rattle.sequence.proofs.Deque.{pushed-latest}
 use Rattle.sequence.proofs.Newest.{newest-of-latest}
 use Rattle.level.specs.declared.Joint.{Joint}
 use Rattle.level.specs.declared.Reading.{Reading}
 use Rattle.float.specs.Arithmetic.{zero64}
 use Rattle.level.specs.Bs1770.{filtered, weighted, energy, mean, smoothed, loudness}
 use Rattle.level.specs.Weighing.{clean_of, run_of}
-use Rattle.level.specs.Level.{no_channel, zeros, lufs_of}
+use Rattle.sequence.specs.Latest.{zeros}
+use Rattle.level.specs.Level.{no_channel, lufs_of}
 use Rattle.level.specs.Deque.{deque_mean, frames_with}
 use Rattle.level.proofs.Deque.{mean-deque}
 use Rattle.level.proofs.Filter.{state_at, shelf-rest, high_pass-rest, weighted-length, weighing_at, run_at, weighted-drop}

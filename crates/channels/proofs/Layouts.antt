@@ -1,14 +1,15 @@
 -- A chain's bed on any layout: its level and the other channels are the level of all channels, frame after frame. So it reads what BS.1770 says,
 -- and keeps what the Rust keeps.
-use Prim.Native.Nat.{ℕ, zero, suc, ◌≤◌}
 use native.Mathlib.Omega.{arith}
+use Rattle.std.proofs.lemmas.List.{take-replicate}
 use mathlib.Core.Path.{◌≡◌, refl, ap, ◌∙◌}
 use mathlib.Core.List.{List, [], ◌∷◌, foldl}
-use lib.ListN.{length, take, drop, get_or, replicate}
+use lib.ListN.{length, drop, get_or}
 use lib.Ieee.{Float}
 use Rattle.level.specs.declared.Weighing.{Weighing}
 use Rattle.level.specs.declared.Level.{Level}
-use Rattle.level.specs.Level.{zeros, fresh_of}
+use Rattle.sequence.specs.Latest.{zeros}
+use Rattle.level.specs.Level.{fresh_of}
 use Rattle.layout.specs.declared.Layout.{Layout}
 use Rattle.layout.specs.Weights.{used_weights}
 use Rattle.layout.proofs.Used.{few-used}
@@ -50,11 +51,6 @@ nexts l (f ∷ fs) b e =
 
 -- ---- from fresh
 
-pub take-replicate : {A : Type 0} (x : A) (n m : ℕ) → n ≤ m → take n (replicate m x) ≡ replicate n x
-take-replicate x zero m h = refl
-take-replicate x (suc n) zero h = absurd (omega arith)
-take-replicate x (suc n) (suc m) h = ap (λ (l : List _). x ∷ l) (take-replicate x n m (omega arith))
-
 pub layout-bs1770 : ReadsLayout
 unfolding bed_after bed_frame_of resting_others zeros
 layout-bs1770 l fs f w e =
@@ -63,7 +59,7 @@ layout-bs1770 l fs f w e =
     let r = nexts l fs fresh refl in
     (λ i. (joint_frame_of (r.0 i) (used_weights (r.1 i)) f).reading)
     ∙ reads-from (used_weights l) fs f (joint_of fresh_of (resting_of l)) w (few-used l) refl
-    (λ i. record { channels = take-replicate resting n 8 (few-used l) i; frames = [] })
+    (λ i. record { channels = take-replicate n 8 resting (few-used l) i; frames = [] })
     e
 
 pub layout-deque : KeepsLayout

@@ -1,13 +1,11 @@
 -- A channel in silence whose filters rest: only its fast number and its energy change, and where they rest too, nothing does.
-use Prim.Native.Nat.{ℕ, zero, suc, ◌+◌, ◌-◌, ◌≤◌, ◌<◌}
-use native.Mathlib.Numerals.{add-one}
+use Prim.Native.Nat.{ℕ, zero, suc, ◌-◌, ◌<◌}
 use native.Mathlib.Omega.{arith}
 use mathlib.Core.Path.{◌≡◌, refl, ap, sym, subst, ◌∙◌}
-use mathlib.Core.List.{List, ◌∷◌, foldl}
+use mathlib.Core.List.{List, [], ◌∷◌, foldl}
 use mathlib.Core.Bool.{Bool, true, ◌&&◌}
 use lib.Dec.{T}
-use lib.ListN.{length, drop, get_or, replicate, drop_of_length-le}
-use lib.Seq.{drop-cons}
+use lib.ListN.{length, get_or, replicate}
 use lib.Ieee.{Float, nan}
 use lib.Ieee.Fits.{and_l, and_r}
 use Rattle.biquad.specs.declared.Ticked.{Ticked}
@@ -51,14 +49,12 @@ still-held y2 w next a b n e t f g =
 
 -- ---- silence
 
-pub silent-turn : (xs : List Float) (i : ℕ) → i < length xs → clean_of (get_or xs i nan) ≡ zero64 → Silent (drop (i + 1) xs) → Silent (drop i xs)
-silent-turn xs i h e s = subst Silent (sym (drop-cons xs i nan h)) (both (subst (λ (n : ℕ). Silent (drop n xs)) (add-one i) s))
-  where
-    both : Silent (drop (suc i) xs) → Silent (get_or xs i nan ∷ drop (suc i) xs)
-    both t = λ k. e k ∷ t k
-
-pub silent-end : (xs : List Float) (i : ℕ) → length xs ≤ i → Silent (drop i xs)
-silent-end xs i h = subst Silent (sym (drop_of_length-le xs h)) refl
+pub silent-each : (xs : List Float) → ((k : ℕ) → k < length xs → clean_of (get_or xs k nan) ≡ zero64) → Silent xs
+silent-each [] h = refl
+silent-each (x ∷ xs) h =
+    let first = h 0 (omega arith) in
+    let rest = silent-each xs (λ k l. h (suc k) (omega arith)) in
+    λ i. first i ∷ rest i
 
 -- the high-pass's output for a sample 0
 abbrev pub output : Weighing → Float
@@ -88,13 +84,12 @@ still-run w xs s h e = still-all (length xs) w s h ∙ ap (foldl step_of w) (sym
 -- as the code finds it
 module _ (t : Channel) (xs : List Float) (w : Weighing) (v : Float) (b : Ticked) (r : Weighing) (p q s : Bool) where
   pub rest-run : w ≡ begin_of t → v ≡ shelf_output w zero64 → b ≡ tick_of t.high_pass k_high_pass v → r ≡ still_run (b.y ⊗ b.y) (length xs) w
-      → p && q ≡ true → (T p → (tick_of t.shelf k_shelf zero64).state ≡ t.shelf) → (T q → (tick_of t.high_pass k_high_pass v).state ≡ t.high_pass)
+      → p ≡ true → (T p → (tick_of t.shelf k_shelf zero64).state ≡ t.shelf) → q ≡ true → (T q → (tick_of t.high_pass k_high_pass v).state ≡ t.high_pass)
       → s ≡ true → (T s → Silent xs) → r ≡ run_of (begin_of t) xs
-  rest-run ew ev eb er pq sh hp st si =
-      let both : T (p && q) = subst T (sym pq) tt in
+  rest-run ew ev eb er pt sh qt hp st si =
       let out = ev ∙ ap (λ (u : Weighing). shelf_output u zero64) ew in
       let y = ap (λ (u : Ticked). u.y) eb ∙ ap (λ (x : Float). (tick_of t.high_pass k_high_pass x).y) out in
-      let stays = subst (λ (x : Float). (tick_of t.high_pass k_high_pass x).state ≡ t.high_pass) out (hp (and_r p q both)) in
+      let stays = subst (λ (x : Float). (tick_of t.high_pass k_high_pass x).state ≡ t.high_pass) out (hp (subst T (sym qt) tt)) in
       er
       ∙ (λ i. still_run (y i ⊗ y i) (length xs) (ew i))
-      ∙ still-run (begin_of t) xs (sh (and_l p q both)) stays (si (subst T (sym st) tt))
+      ∙ still-run (begin_of t) xs (sh (subst T (sym pt) tt)) stays (si (subst T (sym st) tt))

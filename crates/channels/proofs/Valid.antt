@@ -20,7 +20,8 @@ use Rattle.level.specs.declared.Weighing.{Weighing}
 use Rattle.level.specs.declared.Joint.{Joint}
 use Rattle.level.specs.declared.Level.{Level}
 use Rattle.level.specs.Weighing.{clean_of, run_of}
-use Rattle.level.specs.Level.{no_channel, joined_of, push_of, read_of, stored_of}
+use Rattle.sequence.specs.Latest.{push_of}
+use Rattle.level.specs.Level.{no_channel, joined_of, read_of, stored_of}
 use Rattle.level.specs.Valid as level
 use Rattle.level.proofs.Finite.{all-at}
 use Rattle.level.proofs.Valid.{Fit, fold-fits, zero-num, one}

@@ -7,7 +7,7 @@ use Rattle.sequence.specs.History.{laid}
 use Rattle.biquad.specs.Tick.{at_rest}
 use Rattle.level.specs.declared.Weighing.{Weighing}
 use Rattle.level.specs.declared.Joint.{Joint}
-use Rattle.level.specs.declared.Powers.{Powers}
+use Rattle.level.specs.Level.{Powers}
 use Rattle.level.specs.declared.Reading.{Reading}
 use Rattle.level.specs.declared.Read.{Read}
 use Rattle.level.specs.Bs1770.{frame_length}

@@ -6,7 +6,8 @@ use Rattle.float.specs.AllFinite.{all_finite}
 use Rattle.level.specs.declared.Level.{Level}
 use Rattle.level.specs.Bs1770.{frame_length, short_term_frames}
 use Rattle.level.specs.Weighing.{clean_of}
-use Rattle.level.specs.Level.{no_powers, fresh_of, frame_of}
+use Rattle.sequence.specs.Latest.{no_values}
+use Rattle.level.specs.Level.{fresh_of, frame_of}
 use Rattle.level.specs.Heard as level
 use Rattle.layout.specs.declared.Layout.{Layout}
 use Rattle.layout.specs.Layout.{mono_of}
@@ -49,7 +50,7 @@ sources (b ∷ bs) (x ∷ xs) = record { weight = b; samples = x } ∷ sources b
 
 -- the level of n channels that has heard nothing, and that after the frames
 abbrev pub fresh_joint : ℕ → JointLevel
-fresh_joint n = record { channels = replicate n resting; powers = no_powers }
+fresh_joint n = record { channels = replicate n resting; powers = no_values 300 }
 
 unfoldable pub joint_after : List Float → List (List Float) → JointLevel
 joint_after weights fs = foldl (λ (j : JointLevel) (f : List Float). (joint_frame_of j weights f).level) (fresh_joint (length weights)) fs

@@ -5,6 +5,6 @@ pub mod Deque
 pub mod Heard
 pub mod Valid
 pub mod Laws
-pub mod Pairs
+pub mod Fours
 pub mod Rest
 pub mod Runs

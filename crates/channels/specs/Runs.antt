@@ -1,16 +1,17 @@
 -- The channels' filters in any order: which channels have been run, and that these are right. No meaning rests on it.
-use Rattle.std.specs.Prelude.{ℕ, ◌+◌, ◌*◌, ◌≤◌, ◌<◌, Bool, true, false, ◌≡◌, List, length, get_or, set, replicate, Float}
+use Rattle.std.specs.Prelude.{ℕ, ◌<◌, ◌≡◌, Option, Some, None, List, length, get_or, set, Float}
 use Rattle.std.specs.Float.{nan}
 use Rattle.biquad.specs.declared.State.{State}
 use Rattle.level.specs.declared.Weighing.{Weighing}
-use Rattle.level.specs.Bs1770.{frame_length}
 use Rattle.level.specs.Weighing.{run_of}
 use Rattle.layout.specs.Layout.{most}
+use Rattle.pairs.specs.declared.Pair.{Pair}
+use Rattle.pairs.specs.declared.WeighedPairs.{WeighedPairs}
+use Rattle.pairs.specs.declared.Place.TheVariants.{First, Second}
+use Rattle.pairs.specs.Pairs.{weighing_at}
 use Rattle.channels.specs.declared.Channel.{Channel}
-use Rattle.channels.specs.declared.pairs.Four.{Four}
-use Rattle.channels.specs.declared.run.Run.{Run}
+use Rattle.channels.specs.declared.run.Four.{Four}
 use Rattle.channels.specs.Channels.{begin_of, samples_of}
-use Rattle.channels.specs.Pairs.{first_of, second_of}
 
 -- ---- what an array answers past its end
 
@@ -29,26 +30,23 @@ past_weighing = record { shelf = past_state; high_pass = past_state; fast = nan;
 unfoldable pub weighing_of : List Channel → List Float → ℕ → Weighing
 weighing_of cs xs c = run_of (begin_of (get_or cs c past_channel)) (samples_of c xs)
 
--- the slice has all samples of channel c, which is one of eight
-abbrev pub Reaches : ℕ → ℕ → Type 0
-Reaches size c = (c < most) × (c * frame_length + frame_length ≤ size)
+-- each of four channels is one of the first m
+pub record Below (m : ℕ) (f : Four) : Type 0 where
+  pub a : f.a < m
+  pub b : f.b < m
+  pub c : f.c < m
+  pub d : f.d < m
 
 -- ---- the channels that have been run
 
-unfoldable pub no_flags : List Bool
-no_flags = replicate most false
+unfoldable pub put_four : List (Option Weighing) → Four → Pair WeighedPairs → List (Option Weighing)
+put_four r f q =
+    set (set (set (set r f.a (Some (weighing_at q.first First))) f.b (Some (weighing_at q.first Second))) f.c (Some (weighing_at q.second First))) f.d (Some (weighing_at q.second Second))
 
-unfoldable pub put_of : Run → ℕ → Weighing → Run
-put_of r c w = record { weighed = set r.weighed c w; done = set r.done c true }
-
-unfoldable pub put_four : Run → Four → ℕ → ℕ → ℕ → ℕ → Run
-put_four r q a b c d = put_of (put_of (put_of (put_of r a (first_of q.first)) b (second_of q.first)) c (first_of q.second)) d (second_of q.second)
-
--- each channel that is marked has been run, and rightly
-pub record Right (cs : List Channel) (xs : List Float) (r : Run) : Type 0 where
-  pub places : length r.weighed ≡ most
-  pub flags : length r.done ≡ most
-  pub right : (c : ℕ) → get_or r.done c false ≡ true → get_or r.weighed c past_weighing ≡ weighing_of cs xs c
+-- each channel that has been run is right
+pub record Right (cs : List Channel) (xs : List Float) (r : List (Option Weighing)) : Type 0 where
+  pub places : length r ≡ most
+  pub right : (c : ℕ) (w : Weighing) → get_or r c None ≡ Some w → w ≡ weighing_of cs xs c
 
 -- the first m channels have been run
 pub record Complete (cs : List Channel) (xs : List Float) (m : ℕ) (ws : List Weighing) : Type 0 where

@@ -1,7 +1,7 @@
 -- The bed's level as a chain keeps it: the strand's level, whose channel is the bed's first, and beside it the layout and channels 2 to 8.
 use Rattle.std.specs.Prelude.{ℕ, List, ◌∷◌, length, drop, get_or, replicate, Float}
 use Rattle.level.specs.declared.Weighing.{Weighing}
-use Rattle.level.specs.declared.Powers.{Powers}
+use Rattle.level.specs.Level.{Powers}
 use Rattle.level.specs.declared.Level.{Level}
 use Rattle.level.specs.Bs1770.{frame_length}
 use Rattle.level.specs.Level.{no_channel, joined_of}

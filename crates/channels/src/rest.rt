@@ -1,6 +1,6 @@
 // A channel in silence: its filters' numbers shrink until rounding holds them, below the smallest normal number, where processors are slow. Then they
 // need not be run.
-ghost use Rattle.std.specs.Prelude.{◌≡◌, T};
+ghost use Rattle.std.specs.Prelude.{◌≡◌, T, IfSome};
 ghost use Rattle.level.specs.Weighing.{run_of};
 ghost use Rattle.channels.specs.Channels.{begin_of};
 ghost use Rattle.channels.specs.Rest.{still_run, Silent};
@@ -8,13 +8,6 @@ ghost use Rattle.channels.specs.Rest.{still_run, Silent};
 use super::Channel;
 use biquad::{K_HIGH_PASS, K_SHELF};
 use level::Weighing;
-
-// Whether a channel rests, and then its filters after the frame.
-#[derive(Clone, Copy)]
-pub struct Rest {
-    pub rests: bool,
-    pub weighing: Weighing,
-}
 
 // n samples for which both sections' states stay and y2 is the square of the high-pass's output.
 fn still(w: Weighing, y2: f64, n: usize) -> Weighing
@@ -25,10 +18,8 @@ fn still(w: Weighing, y2: f64, n: usize) -> Weighing
         return w;
     }
     let mut u = w;
-    let mut k = n;
-    while 0 < k {
+    for _ in 0..n {
         u = u.still_step(y2);
-        k -= 1;
     }
     u
 }
@@ -37,34 +28,21 @@ fn still(w: Weighing, y2: f64, n: usize) -> Weighing
 fn silent(xs: &[f32]) -> bool
     ensures { T result → Silent xs.now }
 {
-    let mut i = 0;
-    while i < xs.len() {
-        if float::same(level::clean(xs[i]), 0.0) {
-            i += 1;
-        } else {
-            return false;
-        }
-    }
-    true
+    xs.iter().all(|x| float::same(level::clean(*x), 0.0))
 }
 
-// A channel in silence whose filters stay as they are.
-pub fn at_rest(c: Channel, xs: &[f32]) -> Rest
-    ensures { T result.rests → result.weighing ≡ run_of (begin_of c) xs.now }
+// The filters after the frame of a channel in silence whose filters stay as they are; none where that isn't sure.
+pub fn at_rest(c: Channel, xs: &[f32]) -> Option<Weighing>
+    ensures { IfSome result (λ w. w ≡ run_of (begin_of c) xs.now) }
 {
     let w = c.begin();
     let v = w.shelf_output(0.0);
-    if level::holds(c.shelf, K_SHELF, 0.0) & level::holds(c.high_pass, K_HIGH_PASS, v) {
-        if silent(xs) {
-            let b = c.high_pass.tick(K_HIGH_PASS, v);
-            return Rest {
-                rests: true,
-                weighing: still(w, b.y * b.y, xs.len()),
-            };
-        }
+    if level::holds(c.shelf, K_SHELF, 0.0)
+        && level::holds(c.high_pass, K_HIGH_PASS, v)
+        && silent(xs)
+    {
+        let b = c.high_pass.tick(K_HIGH_PASS, v);
+        return Some(still(w, b.y * b.y, xs.len()));
     }
-    Rest {
-        rests: false,
-        weighing: w,
-    }
+    None
 }

@@ -1,48 +1,36 @@
 // The channels' filters over a frame: first those that rest, then four at a time, then what is left. In what order they are run makes no
-// difference; each channel that is marked has been run. Where a sample isn't finite, each is run by itself: four at a time need no test of a sample.
-ghost use Rattle.std.specs.Prelude.{◌*◌, ◌≤◌, ◌<◌, ◌≡◌, T, length, take};
+// difference. Where a sample isn't finite, each is run by itself: four at a time need no test of a sample.
+ghost use Rattle.std.specs.Prelude.{◌*◌, ◌≤◌, ◌<◌, ◌≡◌, T, IfSome, length, take};
 ghost use Rattle.float.specs.AllFinite.{all_finite};
 ghost use Rattle.level.specs.Bs1770.{frame_length};
 ghost use Rattle.layout.specs.Layout.{most};
 ghost use Rattle.channels.specs.Channels.{samples_of, weighings_of};
-ghost use Rattle.channels.specs.Pairs.{four_of};
-ghost use Rattle.channels.specs.Runs.{weighing_of, no_flags, put_of, put_four, Reaches, Right, Complete};
+ghost use Rattle.channels.specs.Fours.{four_of};
+ghost use Rattle.channels.specs.Runs.{weighing_of, put_four, Below, Right, Complete};
 
 use super::Channel;
-use super::pairs::Four;
 use layout::MOST;
 use level::{FRAME, Weighing};
+use pairs::{Pair, Place, WeighedPairs};
 
-// The channels' filters after a frame, and which channels have been run.
-#[derive(Clone, Copy)]
-struct Run {
-    weighed: [Weighing; 8],
-    done: [bool; 8],
-}
+// The channels' filters after a frame, as far as they have been run.
+type Run = [Option<Weighing>; 8];
 
-// Channels, the first count of these places.
+// The channels, of which the first ones are in use.
 #[derive(Clone, Copy)]
-struct Waiting {
+struct InUse {
+    channels: [Channel; 8],
     count: usize,
-    places: [usize; 8],
+    ghost within: { count ≤ most },
 }
 
-fn no_weighings() -> [Weighing; 8]
-    ensures { length result ≡ most }
-{
-    [Channel::new().begin(); 8]
-}
-
-fn no_flags() -> [bool; 8]
-    ensures { result ≡ no_flags }
-{
-    [false; 8]
-}
-
-fn no_places() -> [usize; 8]
-    ensures { length result ≡ most }
-{
-    [0; 8]
+// Four channels that are run together, by their numbers.
+#[derive(Clone, Copy)]
+struct Four {
+    a: usize,
+    b: usize,
+    c: usize,
+    d: usize,
 }
 
 // The 480 samples of channel c; fewer where the slice ends.
@@ -50,191 +38,147 @@ fn samples(xs: &[f32], c: usize) -> &[f32]
     requires { c ≤ most }
     ensures { result.now ≡ samples_of c xs.now }
 {
-    let from = sequence::least(c * FRAME, xs.len());
-    let to = sequence::least(from + FRAME, xs.len());
+    let from = (c * FRAME).min(xs.len());
+    let to = (from + FRAME).min(xs.len());
     &xs[from..to]
 }
 
-impl Run {
-    // No channel is run.
-    fn new() -> Self
-        ensures { (length result.weighed ≡ most) × (result.done ≡ no_flags) }
-    {
-        let weighed = no_weighings();
-        let done = no_flags();
-        Self { weighed, done }
-    }
+// Four channels' filters after the frame.
+#[tactic(auto, unfolding(crate::specs::Runs::put_four))]
+fn put_four(run: Run, f: Four, q: Pair<WeighedPairs>) -> Run
+    requires { Below most f }
+    ensures { result ≡ put_four run f q }
+{
+    let mut next = run;
+    next[f.a] = Some(q.first.at(Place::First));
+    next[f.b] = Some(q.first.at(Place::Second));
+    next[f.c] = Some(q.second.at(Place::First));
+    next[f.d] = Some(q.second.at(Place::Second));
+    next
+}
 
-    // Channel c's filters after the frame.
-    fn put(self, c: usize, w: Weighing) -> Run
+// That what has been run is right is a premise here, and no ghost field: it holds only where the first channel's filters, which come from the caller,
+// are those of its samples, and `Surround::frame` takes any.
+impl InUse {
+    // The filters of channel c over a frame.
+    #[tactic(auto, unfolding(crate::specs::Runs::weighing_of))]
+    fn run_one(self, xs: &[f32], c: usize) -> Weighing
         requires { c < most }
-        ensures { result ≡ put_of self c w }
+        ensures { result ≡ weighing_of self.channels xs.now c }
     {
-        let mut weighed = self.weighed;
-        let mut done = self.done;
-        weighed[c] = w;
-        done[c] = true;
-        Run { weighed, done }
+        self.channels[c].begin().run(samples(xs, c))
     }
 
-    // Four channels' filters after the frame.
-    fn put_four(self, q: Four, a: usize, b: usize, c: usize, d: usize) -> Run
-        requires { (a < most) × (b < most) × (c < most) × (d < most) }
-        ensures { result ≡ put_four self q a b c d }
+    // The filters of four channels over a frame. It stays a function of its own in the machine code: only then do its results lie pair beside pair.
+    #[inline(never)]
+    fn run_four(self, xs: &[f32], f: Four) -> Pair<WeighedPairs>
+        requires { Below self.count f × (self.count * frame_length ≤ length xs.now) × T (all_finite xs.now) }
+        ensures { result ≡ four_of (weighing_of self.channels xs.now f.a) (weighing_of self.channels xs.now f.b)
+            (weighing_of self.channels xs.now f.c) (weighing_of self.channels xs.now f.d) }
     {
-        let v = q.first;
-        let w = q.second;
-        self.put(a, v.first())
-            .put(b, v.second())
-            .put(c, w.first())
-            .put(d, w.second())
+        let s = self.channels[f.a];
+        let t = self.channels[f.b];
+        let u = self.channels[f.c];
+        let v = self.channels[f.d];
+        super::fours::weigh_four(
+            s.begin(),
+            t.begin(),
+            u.begin(),
+            v.begin(),
+            samples(xs, f.a),
+            samples(xs, f.b),
+            samples(xs, f.c),
+            samples(xs, f.d),
+        )
     }
-}
 
-// The filters of channel c over a frame.
-fn run_one(channels: [Channel; 8], xs: &[f32], c: usize) -> Weighing
-    requires { c < most }
-    ensures { result ≡ weighing_of channels xs.now c }
-{
-    let t = channels[c];
-    t.begin().run(samples(xs, c))
-}
-
-// The filters of channels a, b, c and d over a frame. Its two calls keep it a function of its own in the machine code: only then do its results lie
-// pair beside pair.
-fn run_four(channels: [Channel; 8], xs: &[f32], a: usize, b: usize, c: usize, d: usize) -> Four
-    requires { Reaches (length xs.now) a × Reaches (length xs.now) b × Reaches (length xs.now) c × Reaches (length xs.now) d × T (all_finite xs.now) }
-    ensures { result ≡ four_of (weighing_of channels xs.now a) (weighing_of channels xs.now b) (weighing_of channels xs.now c) (weighing_of channels xs.now d) }
-{
-    let s = channels[a];
-    let t = channels[b];
-    let u = channels[c];
-    let v = channels[d];
-    super::pairs::weigh_four(
-        s.begin(),
-        t.begin(),
-        u.begin(),
-        v.begin(),
-        samples(xs, a),
-        samples(xs, b),
-        samples(xs, c),
-        samples(xs, d),
-    )
-}
-
-// The channels below m that are not run yet, and how many. Nothing is promised of them: where one is missing it is run at last by itself.
-fn to_run(done: [bool; 8], m: usize) -> Waiting
-    requires { m ≤ most }
-{
-    let mut places = no_places();
-    let mut count = 0;
-    let mut c = 0;
-    while c < m {
-        if done[c] {
-            c += 1;
-        } else {
-            places[count] = c;
-            count += 1;
-            c += 1;
+    // The first channel from this number on that is in use and not run yet. A loop and no `find`: a closure wouldn't know that c is below 8.
+    fn waiting(self, run: Run, from: usize) -> Option<usize>
+        ensures { IfSome result (λ c. c < self.count) }
+    {
+        for c in from..self.count {
+            if run[c].is_none() {
+                return Some(c);
+            }
         }
+        None
     }
-    Waiting { count, places }
-}
 
-// The channels that rest, each by itself.
-fn run_quiet(run: Run, channels: [Channel; 8], m: usize, xs: &[f32]) -> Run
-    requires { m ≤ most }
-    ensures { Right channels xs.now run → Right channels xs.now result }
-{
-    let mut s = run;
-    let mut c = 0;
-    while c < m {
-        let t = channels[c];
-        let rest = super::rest::at_rest(t, samples(xs, c));
-        let w = rest.weighing;
-        if rest.rests {
-            s = s.put(c, w);
-            c += 1;
-        } else {
-            c += 1;
+    // The first four that are not run yet, where there are two or more; where there are fewer than four, the second fills up.
+    fn next_four(self, run: Run) -> Option<Four>
+        ensures { IfSome result (λ f. Below self.count f) }
+    {
+        let a = self.waiting(run, 0)?;
+        let b = self.waiting(run, a + 1)?;
+        let c = self.waiting(run, b + 1).unwrap_or(b);
+        let d = self.waiting(run, c + 1).unwrap_or(b);
+        Some(Four { a, b, c, d })
+    }
+
+    // The channels that rest, each by itself.
+    fn run_quiet(self, run: Run, xs: &[f32]) -> Run
+        ensures { Right self.channels xs.now run → Right self.channels xs.now result }
+    {
+        let mut next = run;
+        for c in 0..self.count {
+            if let Some(w) = super::rest::at_rest(self.channels[c], samples(xs, c)) {
+                next[c] = Some(w);
+            }
         }
+        next
     }
-    s
-}
 
-// The other channels, four at a time.
-fn run_fours(run: Run, channels: [Channel; 8], m: usize, xs: &[f32]) -> Run
-    requires { (0 < m) × (m ≤ most) × (m * frame_length ≤ length xs.now) × T (all_finite xs.now) }
-    ensures { Right channels xs.now run → Right channels xs.now result }
-{
-    let done = run.done;
-    let waiting = to_run(done, m);
-    let places = waiting.places;
-    let last = m - 1;
-    if waiting.count < 2 {
-        return run;
+    // The other channels, four at a time.
+    fn run_fours(self, run: Run, xs: &[f32]) -> Run
+        requires { (self.count * frame_length ≤ length xs.now) × T (all_finite xs.now) }
+        ensures { Right self.channels xs.now run → Right self.channels xs.now result }
+    {
+        let Some(f) = self.next_four(run) else {
+            return run;
+        };
+        let more = put_four(run, f, self.run_four(xs, f));
+        let Some(g) = self.next_four(more) else {
+            return more;
+        };
+        put_four(more, g, self.run_four(xs, g))
     }
-    let a = sequence::least(places[0], last);
-    let b = sequence::least(places[1], last);
-    let c = sequence::least(places[2], last);
-    let d = sequence::least(places[3], last);
-    let q = run_four(channels, xs, a, b, c, d);
-    let more = run.put_four(q, a, b, c, d);
-    if waiting.count < 6 {
-        return more;
-    }
-    let e = sequence::least(places[4], last);
-    let f = sequence::least(places[5], last);
-    let g = sequence::least(places[6], last);
-    let h = sequence::least(places[7], last);
-    let r = run_four(channels, xs, e, f, g, h);
-    more.put_four(r, e, f, g, h)
-}
 
-// What is left, each by itself.
-#[tactic(auto, using(crate::proofs::Runs::rest_turn))]
-fn run_rest(run: Run, channels: [Channel; 8], m: usize, xs: &[f32]) -> [Weighing; 8]
-    requires { m ≤ most }
-    ensures { Right channels xs.now run → Complete channels xs.now m result }
-{
-    let mut s = run;
-    let mut c = 0;
-    while c < m {
-        let marked = s.done;
-        if marked[c] {
-            c += 1;
-        } else {
-            s = s.put(c, run_one(channels, xs, c));
-            c += 1;
+    // All filters: those that have been run, and what is left, each by itself.
+    fn run_rest(self, run: Run, xs: &[f32]) -> [Weighing; 8]
+        ensures { Right self.channels xs.now run → Complete self.channels xs.now self.count result }
+    {
+        let mut weighed = [Channel::new().begin(); 8];
+        for c in 0..self.count {
+            weighed[c] = match run[c] {
+                Some(w) => w,
+                None => self.run_one(xs, c),
+            };
         }
+        weighed
     }
-    s.weighed
-}
 
-// The filters of the first m channels over a frame, from what has been run of them.
-fn run_all(run: Run, channels: [Channel; 8], m: usize, xs: &[f32]) -> [Weighing; 8]
-    requires { m ≤ most }
-    ensures { Right channels xs.now run → Complete channels xs.now m result }
-{
-    if m < 2 {
-        return run_rest(run, channels, m, xs);
+    // All filters over a frame, from what has been run of them.
+    fn run_all(self, run: Run, xs: &[f32]) -> [Weighing; 8]
+        ensures { Right self.channels xs.now run → Complete self.channels xs.now self.count result }
+    {
+        if self.count < 2 || xs.len() < self.count * FRAME || !float::all_finite(xs) {
+            return self.run_rest(run, xs);
+        }
+        let quiet = self.run_quiet(run, xs);
+        let more = self.run_fours(quiet, xs);
+        self.run_rest(more, xs)
     }
-    if xs.len() < m * FRAME {
-        return run_rest(run, channels, m, xs);
-    }
-    if float::all_finite32(xs) {
-        let first = run_quiet(run, channels, m, xs);
-        let more = run_fours(first, channels, m, xs);
-        return run_rest(more, channels, m, xs);
-    }
-    run_rest(run, channels, m, xs)
 }
 
 // The filters of the first n channels over a frame, of which the first has been run elsewhere, beside the key's.
 pub fn weigh(first: Weighing, channels: [Channel; 8], n: usize, xs: &[f32]) -> [Weighing; 8]
     ensures { first ≡ weighing_of channels xs.now 0 → take n result ≡ weighings_of channels n xs.now }
 {
-    let none = Run::new();
-    let one = none.put(0, first);
-    run_all(one, channels, sequence::least(n, MOST), xs)
+    let used = InUse {
+        channels,
+        count: n.min(MOST),
+    };
+    let mut run = [None; 8];
+    run[0] = Some(first);
+    used.run_all(run, xs)
 }

@@ -1,7 +1,7 @@
 -- When words are those of some value: writing what a codec reads gives them again. One law for each form of a codec.
+use Rattle.std.specs.Prelude.{Some, None}
 use mathlib.Core.Path.{◌≡◌, refl, sym, ap, ◌∙◌, subst}
 use mathlib.Core.Bool.{Bool, true, false, cond, not}
-use mathlib.Core.Option.{none, some}
 use mathlib.Core.List.{List, [], ◌∷◌, ◌++◌, map}
 use Prim.Native.Nat.{ℕ, zero, suc, ◌+◌, ◌-◌, ◌*◌, ◌%◌, ◌≤◌, ◌<◌}
 use native.Mathlib.Nat.{add-zero, zero-add, le_of_suc-le-suc, lt_of_not-le}
@@ -177,7 +177,7 @@ module _ {A : Type 0} (c : Cell A) (l : List ℕ) (i : ℕ) where
   unfolding maybe_of
   reads-maybe = ((λ h. go (eqb u 1) refl h), λ r. back (eqb u 1) refl r)
     where
-      go : (t : Bool) → eqb u 1 ≡ t → Here l i (maybe_enc c (cond t (some (c.read v)) none)) → Optional c l i
+      go : (t : Bool) → eqb u 1 ≡ t → Here l i (maybe_enc c (cond t (Some (c.read v)) None)) → Optional c l i
       go true e h =
           let k : v ≡ c.bits (c.read v) = here-head (here-rest (1 ∷ []) (c.bits (c.read v) ∷ []) refl h) in
           let w : u ≡ 1 = eqb-true u 1 e in
@@ -186,7 +186,7 @@ module _ {A : Type 0} (c : Cell A) (l : List ℕ) (i : ℕ) where
           let w : u ≡ 0 = here-head h in
           record { flag = omega arith; value = λ z. absurd (omega arith); none = λ z. here-head (here-rest (0 ∷ []) (0 ∷ []) refl h) }
 
-      back : (t : Bool) → eqb u 1 ≡ t → Optional c l i → Here l i (maybe_enc c (cond t (some (c.read v)) none))
+      back : (t : Bool) → eqb u 1 ≡ t → Optional c l i → Here l i (maybe_enc c (cond t (Some (c.read v)) None))
       back true e r = here_cons (eqb-true u 1 e) (here_cons (sym (r.value (eqb-true u 1 e))) (here-none l (i + 1 + 1)))
       back false e r =
           let n : u ≡ 1 → ⊥ = eqb-false u 1 e in

@@ -1,7 +1,7 @@
 -- The laws of each form of a codec.
+use Rattle.std.specs.Prelude.{Option, Some, None}
 use mathlib.Core.Path.{◌≡◌, refl, sym, ap, ◌∙◌, subst}
 use mathlib.Core.Bool.{Bool, true, false, cond}
-use mathlib.Core.Option.{Option, none, some}
 use mathlib.Core.List.{List, [], ◌∷◌, map}
 use Prim.Native.Nat.{ℕ, suc, ◌+◌, ◌^◌, ◌≤◌, ◌<◌}
 use native.Mathlib.Nat.{le_trans}
@@ -144,26 +144,26 @@ counted-laws {A} {c} q n b = record {
 
 module _ {A : Type 0} (c : Cell A) (q : CellLaws c) where
   maybe-size : (a : Option A) → length (maybe_enc c a) ≡ 2
-  maybe-size none = refl
-  maybe-size (some x) = refl
+  maybe-size None = refl
+  maybe-size (Some x) = refl
 
   two : (u v : ℕ) → u < 2 ^ 64 → v < 2 ^ 64 → Words (u ∷ v ∷ [])
   two u v h g = below_cons (2 ^ 64) u (v ∷ []) h (below_cons (2 ^ 64) v [] g (below-nil (2 ^ 64) (lit< tt)))
 
   maybe-small : (a : Option A) → MaybeOk c a → Words (maybe_enc c a)
-  maybe-small none ok = two 0 0 (lit< tt) (lit< tt)
-  maybe-small (some x) ok = two 1 (c.bits x) (lit< tt) (q.bits_small x ok)
+  maybe-small None ok = two 0 0 (lit< tt) (lit< tt)
+  maybe-small (Some x) ok = two 1 (c.bits x) (lit< tt) (q.bits_small x ok)
 
   maybe_back : (a : Option A) (l : List ℕ) (i : ℕ) → MaybeOk c a → Here l i (maybe_enc c a) → maybe_of c (get_or l i 0) (get_or l (i + 1) 0) ≡ a
   unfolding maybe_of
-  maybe_back none l i ok h = rw (here-head h)
-  maybe_back (some x) l i ok h = rw (here-head h, here-head (here-rest (1 ∷ []) (c.bits x ∷ []) refl h)) (ap some (q.read_bits x ok))
+  maybe_back None l i ok h = rw (here-head h)
+  maybe_back (Some x) l i ok h = rw (here-head h, here-head (here-rest (1 ∷ []) (c.bits x ∷ []) refl h)) (ap Some (q.read_bits x ok))
 
   maybe-sound : (u v : ℕ) → MaybeOk c (maybe_of c u v)
   unfolding maybe_of
   maybe-sound u v = go (eqb u 1)
     where
-      go : (b : Bool) → MaybeOk c (cond b (some (c.read v)) none)
+      go : (b : Bool) → MaybeOk c (cond b (Some (c.read v)) None)
       go true = q.read_good v
       go false = tt
 

@@ -6,6 +6,7 @@ use Prim.Native.Nat.{ℕ, zero, suc, ◌+◌, ◌*◌, ◌/◌, ◌%◌, ◌^◌
 use native.Mathlib.Nat.{zero-add, add-zero}
 use native.Mathlib.Omega.{arith}
 use borrow.Author.Tests.{lt-ltb, le-ltb, ltb-true, eqb-true, eqb-false}
+use mir.Val.{bool_byte}
 use lib.Dec.{T, ltb, leb, eqb, lit<}
 use lib.ListN.{length, get_or, length-append, get_or-append}
 use lib.Seq.{get_or-append-add}
@@ -61,10 +62,6 @@ pub capped_same : (n w : ℕ) → w < n → capped n w ≡ w
 unfolding capped
 capped_same n w h = rw (lt-ltb w n h)
 
-pub capped-out : (n w : ℕ) → n ≤ w → capped n w ≡ 0
-unfolding capped
-capped-out n w h = rw (le-ltb w n h)
-
 pub capped-lt : (n w : ℕ) → 0 < n → capped n w < n
 unfolding capped
 capped-lt n w p = go (ltb w n) refl
@@ -74,6 +71,11 @@ capped-lt n w p = go (ltb w n) refl
     go false e = p
 
 -- ---- a flag
+
+-- `u64::from` of a flag
+pub flag-from : (b : Bool) → bool_byte b ≡ flag_bits b
+flag-from true = refl
+flag-from false = refl
 
 pub flag-back : (b : Bool) → Unit {0} → eqb (flag_bits b) 1 ≡ b
 flag-back true u = refl

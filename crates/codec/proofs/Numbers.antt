@@ -5,7 +5,7 @@ use Prim.Native.Nat.{ℕ, ◌*◌, ◌%◌, ◌≤◌, ◌<◌}
 use native.Mathlib.Nat.{le_of_lt}
 use borrow.Author.Tests.{lt-ltb, le-ltb}
 use lib.Dec.{T, ltb}
-use lib.Ieee.{Format, binary32, top, of_bits, nan_bits}
+use lib.Ieee.{Format, binary32, binary64, top, of_bits, nan_bits}
 use Rattle.float.proofs.Patterns.{no-nan-pattern}
 use Rattle.codec.specs.Fields.{infinite, zero_of, num_of}
 
@@ -29,7 +29,17 @@ num_of-wide f w a = rw (le-ltb w (2 * top f) a) (go (ltb (w % top f) (infinite f
 pub no_nan : (f : Format) (w : ℕ) → w % top f < infinite f → T (not (nan_bits f w))
 no_nan f w h = no-nan-pattern f w (le_of_lt h)
 
--- the same of an f32's word, as `num32` tests it
+-- the same of an f64's word, as `from_word` tests it
+pub num64_in : (w : ℕ) → w < 18446744073709551616 → w % 9223372036854775808 < 9218868437227405312 → of_bits binary64 w ≡ num_of binary64 w
+num64_in w a b = sym (num_of_in binary64 w b a)
+
+pub num64_out : (w : ℕ) → 9218868437227405312 ≤ w % 9223372036854775808 → zero_of binary64 ≡ num_of binary64 w
+num64_out w a = sym (num_of-out binary64 w a)
+
+pub num64_no_nan : (w : ℕ) → w % 9223372036854775808 < 9218868437227405312 → T (not (nan_bits binary64 w))
+num64_no_nan w a = no_nan binary64 w a
+
+-- the same of an f32's word, as `from_word` tests it
 pub num32_in : (w : ℕ) → w < 4294967296 → w % 2147483648 < 2139095040 → of_bits binary32 w ≡ num_of binary32 w
 num32_in w a b = sym (num_of_in binary32 w b a)
 

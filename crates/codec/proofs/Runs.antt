@@ -1,4 +1,5 @@
 -- Runs of words, one after another.
+use Rattle.std.specs.Prelude.{Option, Some, None}
 use mathlib.Core.Path.{◌≡◌, refl, sym, ap, ◌∙◌, subst}
 use mathlib.Core.List.{List, [], ◌∷◌, ◌++◌, map, append-nil, append_assoc}
 use Prim.Native.Nat.{ℕ, suc, ◌+◌, ◌*◌, ◌<◌}
@@ -9,7 +10,7 @@ use lib.Seq.{take-suc, take_all}
 use Rattle.blocks.specs.Lists.{Laid}
 use Rattle.blocks.proofs.Lists.{none_yet, next}
 use Rattle.codec.specs.Run.{Run}
-use Rattle.codec.specs.Codec.{rows_enc}
+use Rattle.codec.specs.Codec.{Cell, maybe_enc, rows_enc}
 
 -- a run, and another right behind it
 pub then : {l l₁ l₂ xs ys : List ℕ} {i n j m : ℕ} → Run l i n xs l₁ → i + n ≡ j → Run l₁ j m ys l₂ → Run l i (n + m) (xs ++ ys) l₂
@@ -25,6 +26,11 @@ single p = record { over = p; size = refl }
 -- as many as there are
 pub these : {l l' xs : List ℕ} {i : ℕ} (n : ℕ) → length xs ≡ n → Laid l i xs l' → Run l i n xs l'
 these n e p = record { over = p; size = e }
+
+-- a value or none
+pub optional : {A : Type 0} (c : Cell A) (x : Option A) {l l' : List ℕ} {i : ℕ} → Laid l i (maybe_enc c x) l' → Run l i 2 (maybe_enc c x) l'
+optional c None p = record { over = p; size = refl }
+optional c (Some x) p = record { over = p; size = refl }
 
 -- a counted list of n places
 pub listed : {A : Type 0} (f : A → ℕ) (xs : List A) {l l' : List ℕ} {i m : ℕ} (n : ℕ) → length xs ≡ n → Laid l i (m ∷ map f xs) l' → Run l i (suc n) (m ∷ map f xs) l'

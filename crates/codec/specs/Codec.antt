@@ -1,8 +1,7 @@
 -- What a codec is: how a value is written as words and read back, which values it holds, and the laws of the two. Definitions only.
 -- `dec` is total: words that break a rule are read as some good value, whose words differ from those read.
 -- So words are accepted exactly where writing what was read gives them again.
-use Rattle.std.specs.Prelude.{◌≡◌, cond, List, [], ◌∷◌, ◌++◌, ℕ, ◌+◌, ◌*◌, ◌^◌, ◌<◌, ltb, eqb, length, get_or}
-use Rattle.std.proofs.Math.Option.{Option, none, some}
+use Rattle.std.specs.Prelude.{◌≡◌, cond, List, [], ◌∷◌, ◌++◌, ℕ, ◌+◌, ◌*◌, ◌^◌, ◌<◌, ltb, eqb, length, get_or, Option, Some, None}
 use Rattle.blocks.specs.Lists.{Words}
 
 -- the words xs stand in l from place i on
@@ -42,15 +41,15 @@ value_at c l i m k = cond (ltb k m) (c.read (get_or l (i + k) 0)) c.blank
 
 -- a value or none, as a flag and a value; the value is 0 where there is none
 abbrev pub maybe_enc : {A : Type 0} → Cell A → Option A → List ℕ
-maybe_enc c none = 0 ∷ 0 ∷ []
-maybe_enc c (some x) = 1 ∷ c.bits x ∷ []
+maybe_enc c None = 0 ∷ 0 ∷ []
+maybe_enc c (Some x) = 1 ∷ c.bits x ∷ []
 
 abbrev pub MaybeOk : {A : Type 0} → Cell A → Option A → Type 0
-MaybeOk c none = Unit {0}
-MaybeOk c (some x) = c.Good x
+MaybeOk c None = Unit {0}
+MaybeOk c (Some x) = c.Good x
 
 unfoldable pub maybe_of : {A : Type 0} → Cell A → ℕ → ℕ → Option A
-maybe_of c u v = cond (eqb u 1) (some (c.read v)) none
+maybe_of c u v = cond (eqb u 1) (Some (c.read v)) None
 
 -- the words of some values, one value after another
 unfoldable pub rows_enc : {A : Type 0} → (A → List ℕ) → List A → List ℕ

@@ -1,6 +1,5 @@
 -- The codecs of a field, of two in a row, of a counted list, of a value or none and of rows. Definitions only.
-use Rattle.std.specs.Prelude.{Bool, false, List, [], ◌∷◌, ◌++◌, map, ℕ, suc, ◌+◌, ◌*◌, ◌<◌, T, eqb, length, get_or, Float}
-use Rattle.std.proofs.Math.Option.{Option}
+use Rattle.std.specs.Prelude.{Bool, false, List, [], ◌∷◌, ◌++◌, map, ℕ, suc, ◌+◌, ◌*◌, ◌^◌, ◌<◌, T, eqb, length, get_or, Float, Option}
 use Rattle.std.specs.Float.{Format, binary32, binary64}
 use Rattle.std.specs.Float.Ieee.{to_bits}
 use Rattle.float.specs.Valid.{Num}
@@ -20,6 +19,10 @@ f64 = float binary64
 
 abbrev pub f32 : Cell Float
 f32 = float binary32
+
+-- any word
+abbrev pub word : Cell ℕ
+word = record { bits = λ x. x; read = λ w. w; Good = λ x. x < 2 ^ 64; blank = 0 }
 
 -- a number below n
 abbrev pub below : ℕ → Cell ℕ

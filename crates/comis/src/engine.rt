@@ -33,10 +33,11 @@ pub struct AutomixResult {
 }
 
 // The reduction, dB, that puts the ratio on the target, LU: a decibel less of the bed is one LU more of ratio. Nothing where a reading is silence.
+#[tactic(auto, unfolding(crate::specs::Engine::required_reduction))]
 pub fn required_reduction(target_ratio_lu: f64, bed_lufs: Lufs, dialogue_lufs: Lufs) -> Need
     ensures { result ≡ required_reduction target_ratio_lu bed_lufs dialogue_lufs }
 {
-    if (bed_lufs.0 <= SILENCE_LUFS) | (dialogue_lufs.0 <= SILENCE_LUFS) {
+    if bed_lufs.0 <= SILENCE_LUFS || dialogue_lufs.0 <= SILENCE_LUFS {
         return Need::Nothing;
     }
     Need::Reduction(Db(target_ratio_lu - (dialogue_lufs.0 - bed_lufs.0)))
@@ -44,14 +45,14 @@ pub fn required_reduction(target_ratio_lu: f64, bed_lufs: Lufs, dialogue_lufs: L
 
 impl AutomixEngineConfig {
     // The ratio aimed at in a state, LU.
+    #[tactic(auto, unfolding(crate::specs::Engine::active_target))]
     pub fn active_target_ratio_lu(self, state: MixState) -> f64
         ensures { result ≡ active_target self state }
     {
         match state {
-            MixState::ReleaseToUnity => self.target_ratio_lu,
-            MixState::DuckToTarget => self.target_ratio_lu,
-            MixState::InterviewPassthrough => self.target_ratio_lu,
             MixState::DuckToOvervoice => self.overvoice_ratio_lu,
+            MixState::ReleaseToUnity | MixState::DuckToTarget | MixState::InterviewPassthrough =>
+                self.target_ratio_lu,
         }
     }
 
@@ -59,16 +60,16 @@ impl AutomixEngineConfig {
     pub fn loop_config(self) -> LoopBankConfig
         ensures { result ≡ loop_config self }
     {
-        let max_gain_reduction_db = self.max_gain_reduction_db;
         LoopBankConfig {
             speed: self.speed,
-            max_gain_reduction_db,
+            max_gain_reduction_db: self.max_gain_reduction_db,
             mid_authority_db: Db(6.0),
             fast_authority_db: Db(4.0),
         }
     }
 
     // Slow and mid, by the voice of the commentary (COM) and of the bed (IS).
+    #[tactic(auto, unfolding(crate::specs::Engine::process_tick, crate::specs::Engine::tick_in))]
     pub fn process_tick(
         self,
         loops: Loops,
@@ -111,6 +112,7 @@ impl AutomixEngineConfig {
     }
 
     // Fast, after `process_tick`, in the state that it found.
+    #[tactic(auto, unfolding(crate::specs::Engine::process_fast))]
     pub fn process_fast(
         self,
         loops: Loops,

@@ -8,6 +8,7 @@ pub struct EnvelopeDetector {
 }
 
 // An envelope after a step, and whether the number that the step handed to e ^ x, if any, was finite.
+// The flag stands beside the value, here and below, since the value is promised whatever the flag says.
 #[derive(Clone, Copy)]
 pub struct Stepped {
     pub envelope: EnvelopeDetector,
@@ -22,24 +23,27 @@ pub struct Coefficient {
 }
 
 // By a time constant and a step, seconds. A time constant that isn't above zero or isn't finite, or a step of no time, means a jump to the target.
+#[tactic(auto, unfolding(crate::specs::Envelope::coeff_of))]
 fn coeff(time_constant: f64, dt_seconds: f64) -> Coefficient
     ensures { result ≡ coeff_of time_constant dt_seconds }
 {
-    if (time_constant > 0.0) & float::finite(time_constant) & (dt_seconds > 0.0) {
+    if time_constant > 0.0 && float::finite(time_constant) && dt_seconds > 0.0 {
         let exponent = -dt_seconds / time_constant;
-        return Coefficient {
+        Coefficient {
             value: power::exp(exponent),
             finite: float::finite(exponent),
-        };
-    }
-    Coefficient {
-        value: 0.0,
-        finite: true,
+        }
+    } else {
+        Coefficient {
+            value: 0.0,
+            finite: true,
+        }
     }
 }
 
 impl EnvelopeDetector {
     // A step of `dt_seconds` toward the target. A target above the current value picks the attack, any other the release; both in seconds.
+    #[tactic(auto, unfolding(crate::specs::Envelope::process_of))]
     pub fn process(
         mut self,
         target: f64,

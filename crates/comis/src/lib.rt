@@ -12,6 +12,7 @@ ghost use Rattle.std.specs.Prelude.{◌≡◌};
 ghost use Rattle.comis.specs.Shown.{shown_flag, shown_value};
 
 // A reading shown to the operator: silence, or a level; LUFS for a loudness, LU for a ratio.
+// An enum of its own and no Option: silence is a reading and not a missing one, as the specification words it.
 #[derive(Clone, Copy)]
 pub enum Shown {
     Silence,
@@ -19,7 +20,7 @@ pub enum Shown {
 }
 
 impl Shown {
-    // 1 where there is a level, 0 for silence.
+    // 1 where there is a level, 0 for silence: an answer's words, which the C interface fixes, have a flag and a value.
     pub fn flag(self) -> u64
         ensures { result ≡ shown_flag self }
     {

@@ -1,4 +1,5 @@
 // The three loops, whose reductions add in dB: slow states the answer, mid trims it by up to 6 dB either way, fast adds up to 4 dB.
+// `config`, `state` and `dt_seconds` travel one by one, as in the Rust, whose parameters are kept by name and order.
 ghost use Rattle.std.specs.Prelude.{◌≡◌};
 ghost use Rattle.comis.specs.LoopBank.{release_stretch, release_speedup, scaled_of, step_of, step_slow, step_mid, update_slow_mid, fast_goal, update_fast, update_release, contributions_of};
 
@@ -56,6 +57,7 @@ pub struct Loops {
 }
 
 // What a loop needs: nothing, where a reading is silence, or a reduction, dB, which may be below 0.
+// An enum of its own, as `Shown` is, and no Option: another type, so that a shown loudness can't be handed to a loop.
 #[derive(Clone, Copy)]
 pub enum Need {
     Nothing,
@@ -63,6 +65,7 @@ pub enum Need {
 }
 
 // The loops after an update, and whether all that the update handed to e ^ x was finite.
+// The flag stands beside the loops, and no Result, since they are promised whatever it says.
 #[derive(Clone, Copy)]
 pub struct Updated {
     pub loops: Loops,
@@ -80,6 +83,7 @@ pub struct LoopContributions {
 
 // How much a release is stretched: 60 times (the Rust's HOLD_RELEASE_STRETCH) where the hold is full, once where it is used up. Only a plain
 // release is.
+#[tactic(auto, unfolding(crate::specs::LoopBank::release_stretch))]
 fn release_stretch(hold_remaining_seconds: f64, state: MixState) -> f64
     ensures { result ≡ release_stretch hold_remaining_seconds state }
 {
@@ -87,25 +91,23 @@ fn release_stretch(hold_remaining_seconds: f64, state: MixState) -> f64
         MixState::ReleaseToUnity => {
             power::exp60(float::clamp(hold_remaining_seconds / RELEASE_HOLD_SECONDS, 0.0, 1.0))
         }
-        MixState::DuckToTarget => 1.0,
-        MixState::InterviewPassthrough => 1.0,
-        MixState::DuckToOvervoice => 1.0,
+        MixState::DuckToTarget | MixState::InterviewPassthrough | MixState::DuckToOvervoice => 1.0,
     }
 }
 
 // How much faster a release is by its state: only an interview's is.
+#[tactic(auto, unfolding(crate::specs::LoopBank::release_speedup))]
 fn release_speedup(state: MixState) -> f64
     ensures { result ≡ release_speedup state }
 {
     match state {
-        MixState::ReleaseToUnity => 1.0,
-        MixState::DuckToTarget => 1.0,
         MixState::InterviewPassthrough => INTERVIEW_RELEASE_SPEEDUP,
-        MixState::DuckToOvervoice => 1.0,
+        MixState::ReleaseToUnity | MixState::DuckToTarget | MixState::DuckToOvervoice => 1.0,
     }
 }
 
 // A loop's time constants in this state, by the speed, taken as 0.01 where it is less, and by what is left of the hold.
+#[tactic(auto, unfolding(crate::specs::LoopBank::scaled_of))]
 fn scaled(
     config: LoopBankConfig,
     ballistics: Ballistics,
@@ -124,6 +126,7 @@ fn scaled(
 
 impl Loops {
     // A value one step nearer to its target, by a loop's time constants. The smoother holds it as a plain number, dB.
+    #[tactic(auto, unfolding(crate::specs::LoopBank::step_of))]
     fn step(
         self,
         config: LoopBankConfig,
@@ -141,6 +144,7 @@ impl Loops {
     }
 
     // Slow heads for its need, from 0 to the deepest reduction. Without a need it stays.
+    #[tactic(auto, unfolding(crate::specs::LoopBank::step_slow))]
     fn step_slow(
         mut self,
         config: LoopBankConfig,
@@ -168,6 +172,7 @@ impl Loops {
     }
 
     // Mid heads for what its need is beside slow, which has been stepped. Without a need it stays.
+    #[tactic(auto, unfolding(crate::specs::LoopBank::step_mid))]
     fn step_mid(
         mut self,
         config: LoopBankConfig,
@@ -196,6 +201,7 @@ impl Loops {
     }
 
     // Slow and mid while ducking, by what the bed's short-term and momentary loudness ask for. Fills the hold.
+    #[tactic(auto, unfolding(crate::specs::LoopBank::update_slow_mid))]
     pub fn update_slow_mid(
         mut self,
         config: LoopBankConfig,
@@ -209,31 +215,32 @@ impl Loops {
         self.hold_remaining_seconds = RELEASE_HOLD_SECONDS;
         let s = self.step_slow(config, state, required_slow, dt_seconds);
         let m = s.loops.step_mid(config, state, required_mid, dt_seconds);
-        let loops = m.loops;
         Updated {
-            loops,
+            loops: m.loops,
             finite: s.finite & m.finite,
         }
     }
 
     // Where fast heads: for what its need is beside slow and mid, for its own value without a need, and for 0 in a release.
+    #[tactic(auto, unfolding(crate::specs::LoopBank::fast_goal, crate::specs::LoopBank::duck_goal))]
     fn fast_goal(self, config: LoopBankConfig, state: MixState, required: Need) -> Db
         ensures { result ≡ fast_goal self config state required }
     {
-        if state.is_ducking() {
-            return match required {
-                Need::Nothing => self.fast,
-                Need::Reduction(need) => Db(float::clamp(
-                    need.0 - (self.slow.0 + self.mid.0),
-                    0.0,
-                    config.fast_authority_db.0,
-                )),
-            };
+        if !state.is_ducking() {
+            return Db(0.0);
         }
-        Db(0.0)
+        match required {
+            Need::Nothing => self.fast,
+            Need::Reduction(need) => Db(float::clamp(
+                need.0 - (self.slow.0 + self.mid.0),
+                0.0,
+                config.fast_authority_db.0,
+            )),
+        }
     }
 
     // Fast, after slow and mid.
+    #[tactic(auto, unfolding(crate::specs::LoopBank::update_fast))]
     pub fn update_fast(
         mut self,
         config: LoopBankConfig,
@@ -253,6 +260,7 @@ impl Loops {
     }
 
     // Slow and mid on their way back to 0. The hold is lowered first. What a negative mid gives back is taken off slow, down to 0.
+    #[tactic(auto, unfolding(crate::specs::LoopBank::update_release, crate::specs::LoopBank::less_trim))]
     pub fn update_release(
         mut self,
         config: LoopBankConfig,
@@ -266,12 +274,11 @@ impl Loops {
         let returned_trim = float::max(m.envelope.current - self.mid.0, 0.0);
         let s = self.step(config, state, SLOW, self.slow, Db(0.0), dt_seconds);
         self.mid.0 = m.envelope.current;
-        let slow = float::pick(
+        self.slow.0 = float::pick(
             returned_trim > 0.0,
             float::max(s.envelope.current - returned_trim, 0.0),
             s.envelope.current,
         );
-        self.slow.0 = slow;
         Updated {
             loops: self,
             finite: m.finite & s.finite,
@@ -279,16 +286,14 @@ impl Loops {
     }
 
     // Each loop's reduction, and their sum from 0 to the deepest reduction.
+    #[tactic(auto, unfolding(crate::specs::LoopBank::contributions_of))]
     pub fn contributions(self, config: LoopBankConfig) -> LoopContributions
         ensures { result ≡ contributions_of self config }
     {
-        let slow_db = self.slow;
-        let mid_db = self.mid;
-        let fast_db = self.fast;
         LoopContributions {
-            slow_db,
-            mid_db,
-            fast_db,
+            slow_db: self.slow,
+            mid_db: self.mid,
+            fast_db: self.fast,
             total_db: Db(float::clamp(
                 self.slow.0 + self.mid.0 + self.fast.0,
                 0.0,

@@ -1,5 +1,5 @@
 -- A count that is capped at the number of places holds the same.
-use Rattle.std.proofs.Common.{◌≡◌, ℕ, min, List, length, take, sym, ap, ◌∙◌, lt_of_not-le, arith, length-take, take_all}
+use Rattle.std.proofs.Common.{◌≡◌, ℕ, min, List, length, take, sym, ap, ◌∙◌, lt_of_not-le, arith, take_all}
 use native.Mathlib.Decide.{dec_le}
 use Rattle.sequence.specs.History.{held}
 
@@ -11,6 +11,3 @@ module _ {A : Type 0} (count n : ℕ) (places : List A) (size : length places �
         let l = lt_of_not-le h in
         take_all (min count n) places (omega arith) ∙ sym (take_all count places (omega arith))
   ]
-
-  pub held-size : length (take (min count n) places) ≡ min count n
-  held-size = length-take (min count n) places ∙ omega arith

@@ -1,5 +1,5 @@
 -- The laws of sums of products that the loops over a window cite.
-use Rattle.std.proofs.Common.{◌≡◌, ℕ, suc, ◌+◌, ◌<◌, ◌≤◌, List, [], ◌∷◌, length, get_or, drop, set, refl, ap, ◌∙◌, zero-add, add-one, arith, length-drop, length-set, drop-cons, get_or-set_other, get_or-set_same, below_more}
+use Rattle.std.proofs.Common.{◌≡◌, ℕ, suc, ◌+◌, ◌<◌, ◌≤◌, List, [], ◌∷◌, length, get_or, drop, set, refl, ap, ◌∙◌, zero-add, add-one, arith, length-drop, length-set, drop-cons, get_or-set_other, get_or-set_same, below_more, ap₂, take, take_all, ◌-◌}
 use lib.Ieee.{Float, nan}
 use Rattle.float.specs.Arithmetic.{◌⊕◌, ◌⊗◌, zero64}
 use Rattle.detector.specs.declared.voicing.Eight.{Eight}
@@ -49,6 +49,14 @@ products-turn s x i j lag e p h q =
 pub products-end : (s : Float) (x : List Float) (i lag : ℕ) (e : Float) → length x ≤ i + lag
     → products_from s (drop i x) (drop (i + lag) x) ≡ e → s ≡ e
 products-end s x i lag e h q = none_left s (drop i x) (drop (i + lag) x) (simp length-drop (omega arith)) ∙ q
+
+-- what the slices from places i and j on have is what is left there
+pub products-left : (s : Float) (x : List Float) (i j k : ℕ) → j ≡ k
+    → products_from s (take (length x - i) (drop i x)) (take (length x - j) (drop j x)) ≡ products_from s (drop i x) (drop k x)
+products-left s x i j k e = ap₂ (products_from s) (rest i) (rest j ∙ ap (λ (n : ℕ). drop n x) e)
+  where
+    rest : (n : ℕ) → take (length x - n) (drop n x) ≡ drop n x
+    rest n = take_all (length x - n) (drop n x) (simp length-drop (omega arith))
 
 -- what P says holds of the elements below i; a, of which P i says it, is stored at i
 pub stored_more : (P : ℕ → Float) (v : List Float) (i next : ℕ) (a : Float) → next ≡ i + 1 → i < length v → a ≡ P i

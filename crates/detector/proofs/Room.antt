@@ -1,8 +1,11 @@
 -- A block of values more in a count and its places, as the code stores it: behind what is held, or after that is moved down. Over any element.
-use Rattle.std.proofs.Common.{◌≡◌, ℕ, ◌+◌, ◌-◌, ◌≤◌, min, List, ◌++◌, length, take, drop, sym, refl, ap, ◌∙◌, ap₂, arith, length-append, length-drop, drop_of_length-le, length-take, take_all, take-add, drop_at}
-use lib.Seq.{paste, take-append-le, drop-append-le}
+use Rattle.std.proofs.Common.{◌≡◌, ℕ, ◌+◌, ◌-◌, ◌≤◌, min, List, ◌++◌, length, take, drop, sym, refl, ap, ◌∙◌, ap₂, arith, length-append, length-drop, drop_of_length-le, length-take, take-add, drop_at, drop-drop, append_assoc}
+use borrow.Rule.Slice.PartMut.{put_mid}
+use Rattle.std.specs.List.{copy_within}
+use Rattle.std.proofs.lemmas.List.Edits.{paste_all}
+use lib.Seq.{take-append-le, drop-append-le}
 use Rattle.sequence.specs.History.{latest, held, laid, places_after}
-use Rattle.sequence.proofs.Latest.{latest-all, drop_as}
+use Rattle.sequence.proofs.Deque.{latest-all, drop_as}
 use Rattle.detector.proofs.Held.{held-capped}
 
 module _ {A : Type 0} (count : ℕ) (places ys : List A) (n : ℕ) (held-n : n ≡ min count (length places)) where
@@ -16,12 +19,14 @@ module _ {A : Type 0} (count : ℕ) (places ys : List A) (n : ℕ) (held-n : n �
   all-size = length-append (take n places) ys ∙ ap (λ (k : ℕ). k + length ys) size
 
   -- there is room for all of them
-  pub stored-behind : n + length ys ≤ length places → paste places n ys (length ys) ≡ places_after count places ys
+  pub stored-behind : (new : List A) (m : ℕ) → new ≡ ys → m ≡ length ys → n + length ys ≤ length places → put_mid n m places new ≡ places_after count places ys
   unfolding places_after
-  stored-behind h =
+  stored-behind new m e f h =
       let l = take n places ++ ys in
       let kept : latest (length places) l ≡ l = latest-all (length places) l (omega (arith, all-size)) in
-      ap (λ (r : List A). take n places ++ r ++ drop (n + length ys) places) (take_all (length ys) ys (omega arith))
+      ap₂ (λ (r : List A) (j : ℕ). put_mid n j places r) e f
+      ∙ ap (λ (r : List A). take n places ++ (ys ++ r)) (drop-drop (length ys) n places)
+      ∙ sym (append_assoc (take n places) ys (drop (n + length ys) places))
       ∙ ap (λ (k : ℕ). l ++ drop k places) (sym all-size)
       ∙ ap (λ (m : List A). laid m places) (sym kept)
       ∙ ap (λ (m : List A). laid (latest (length places) (m ++ ys)) places) capped
@@ -52,10 +57,21 @@ module _ {A : Type 0} (count : ℕ) (places ys : List A) (n : ℕ) (held-n : n �
     down-size : length down ≡ length places
     down-size = simp (length-append, length-drop) (omega arith)
 
-    pub stored_moved : paste down at ys (length ys) ≡ places_after count places ys
+    -- by `copy_within` all is moved down
+    down-is : (v : List A) → v ≡ copy_within places k (length places) 0 → v ≡ down
+    down-is v e =
+        e
+        ∙ paste_all places 0 (drop k places) (length places - k) (sym (length-drop k places))
+        ∙ ap (λ (j : ℕ). drop k places ++ drop j places) (omega arith)
+
+    pub stored_moved : (v new : List A) (m : ℕ) → v ≡ copy_within places k (length places) 0 → new ≡ ys → m ≡ length ys → put_mid at m v new ≡ places_after count places ys
     unfolding places_after
-    stored_moved =
-        ap₂ (λ (a b : List A). a ++ b ++ drop (at + length ys) down) moved (take_all (length ys) ys (omega arith))
+    stored_moved v new m e f g =
+        ap (λ (w : List A). put_mid at m w new) (down-is v e)
+        ∙ ap₂ (λ (r : List A) (j : ℕ). put_mid at j down r) f g
+        ∙ ap (λ (r : List A). take at down ++ (ys ++ r)) (drop-drop (length ys) at down)
+        ∙ sym (append_assoc (take at down) ys (drop (at + length ys) down))
+        ∙ ap (λ (a : List A). a ++ ys ++ drop (at + length ys) down) moved
         ∙ ap (λ (r : List A). drop k (take n places) ++ ys ++ r)
         (drop_of_length-le down {i = at + length ys} (omega (arith, down-size))
         ∙ sym (drop_of_length-le places {i = length (drop k (take n places) ++ ys)} (omega (arith, kept-size))))

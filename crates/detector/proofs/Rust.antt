@@ -1,5 +1,6 @@
 -- The port agrees with the Rust's detector: fresh, and after each frame whose numbers are finite.
-use Rattle.std.proofs.Common.{◌≡◌, ℕ, zero, suc, ◌+◌, ◌*◌, ◌<◌, ◌≤◌, max, Bool, true, false, cond, T, eqb, ltb, List, [], ◌∷◌, ◌++◌, map, length, sym, refl, ap, ◌∙◌, subst, ap₂, arith, ltb-false, ltb-true, le-ltb, eq-eqb, ne_eqb}
+use Rattle.sequence.specs.Latest.{push_of, zeros}
+use Rattle.std.proofs.Common.{◌≡◌, ℕ, zero, suc, ◌+◌, ◌*◌, ◌<◌, ◌≤◌, max, Bool, true, false, cond, T, eqb, ltb, List, [], ◌∷◌, ◌++◌, map, length, sym, refl, ap, ◌∙◌, subst, ap₂, arith, ltb-false, ltb-true, le-ltb, eq-eqb, ne_eqb, Option}
 use mathlib.Core.List.{foldl}
 use lib.ListN.{length-replicate}
 use lib.Ieee.{Float, nan, inf, fin, binary32, lt, of_bits}
@@ -7,14 +8,13 @@ use lib.Ieee.Scale.{finite}
 use Rattle.float.specs.Choice.{min_of}
 use Rattle.narrow.specs.Narrow.{narrow_of}
 use Rattle.sequence.specs.History.{latest, pushed, held, count_after, places_after}
-use Rattle.sequence.proofs.Latest.{latest-all, latest-size, latest-length, latest-latest, latest_append, pushes_block, shorter_block, pushes_latest}
+use Rattle.sequence.proofs.Deque.{latest-all, latest-size, latest-length, latest-latest, latest_append, pushes_block, shorter_block, pushes_latest}
 use Rattle.sequence.proofs.Places.{held_after, held_pushes, places-length}
 use Rattle.detector.specs.declared.filters.Bands.{Bands}
 use Rattle.detector.specs.declared.filters.Decimated.{Decimated}
 use Rattle.detector.specs.declared.floor.Floor.{Floor}
 use Rattle.detector.specs.Filters.{begun, run_of, outputs_of, no_decimated, eighths, kept_of, keep_of}
-use Rattle.detector.specs.declared.floor.Smoothed.{Smoothed}
-use Rattle.detector.specs.Floor.{no_minima, smoothed_of, window_min_of, minima_of, lowest_of, least_of, next_of, stored_of, floor_of}
+use Rattle.detector.specs.Floor.{smoothed_of, window_min_of, next_of, stored_of, floor_of}
 use Rattle.detector.specs.Agrees.{FloorAgrees, Agrees}
 use Rattle.detector.specs.Voicing.{voicing_of}
 use Rattle.detector.specs.Rust.{sampled, sample_of, RustFloor, rust_stored, rust_floor, RustDetector, rust_features, rust_heard, rust_frame, rust_fresh}
@@ -24,7 +24,7 @@ use Rattle.detector.specs.declared.Frame.{Frame}
 use Rattle.detector.specs.declared.voicing.Voicing.{Voicing}
 use Rattle.detector.specs.declared.FeatureDetector.{FeatureDetector}
 use Rattle.detector.specs.Steps.{db_of}
-use Rattle.detector.specs.Modulation.{no_history, history_of, modulation_of}
+use Rattle.detector.specs.Modulation.{modulation_of}
 use Rattle.detector.specs.Detector.{fresh_of, frame64, powers_of, with_features, shown_of, finish_of, frame_of}
 use Rattle.float.specs.Arithmetic.{zero64, whole}
 use Rattle.level.proofs.Finite.{all-at}
@@ -95,7 +95,7 @@ module _ (f : Floor) (r : RustFloor) (a : FloorAgrees f r) (e : Float) (ok : T (
   s = smoothed_of f.smoothed e
 
   same : smoothed_of r.smoothed e ≡ s
-  same = ap (λ (o : Smoothed). smoothed_of o e) a.smoothed
+  same = ap (λ (o : Option Float). smoothed_of o e) a.smoothed
 
   finite-s : T (finite s)
   finite-s = unfold floor_of in ok
@@ -112,7 +112,7 @@ module _ (f : Floor) (r : RustFloor) (a : FloorAgrees f r) (e : Float) (ok : T (
   minimum = ap (min_of r.window_min) same ∙ least
 
   pub floor-value : (rust_floor (r) e).value ≡ (floor_of f e).floor
-  unfolding rust_floor floor_of least_of lowest_of
+  unfolding rust_floor floor_of
   floor-value = ap₂ (foldl min_of) minimum a.minima
 
   pub floor-agrees : FloorAgrees (floor_of f e).next (rust_floor r e).next
@@ -142,8 +142,8 @@ module _ (f : Floor) (r : RustFloor) (a : FloorAgrees f r) (e : Float) (ok : T (
             window_min = refl;
             window_frames = refl;
             within = omega arith;
-            minima = unfold minima_of in one_more 8 f.minima.count f.minima.list r.minima (window_min_of f s) a.minima a.places (omega arith);
-            places = unfold minima_of in places-length f.minima.count f.minima.list (window_min_of f s ∷ []) ∙ a.places;
+            minima = unfold push_of in one_more 8 f.minima.count f.minima.list r.minima (window_min_of f s) a.minima a.places (omega arith);
+            places = unfold push_of in places-length f.minima.count f.minima.list (window_min_of f s ∷ []) ∙ a.places;
           })
 
 -- ---- a frame
@@ -183,7 +183,7 @@ module _ (d : FeatureDetector) (r : RustDetector) (a : Agrees d r) (xs : List Fl
     ok_floor = all-at (numbers d ran outputs) 0 (told d ran outputs (subst (λ (h : Heard). T h.finite) port ok)).numbers-finite (omega arith)
 
     pub frame-shown : (rust_frame r xs).frame ≡ (frame_of d xs).frame
-    unfolding finish_of shown_of modulation_of history_of
+    unfolding finish_of shown_of modulation_of push_of
     frame-shown =
         let value = floor-value d.floor r.floor a.floor e ok_floor in
         let values = one_more 40 d.history.count d.history.list r.history e a.history a.values (omega arith) in
@@ -191,7 +191,7 @@ module _ (d : FeatureDetector) (r : RustDetector) (a : Agrees d r) (xs : List Fl
         sym (voicing-latest deque) ∙ ap voicing_of (latest-kept d.decimated r.decimated (kept_of outputs) a.decimated a.few a.places) in
         rw (port, rust)
         (ap₂ (λ (x : Float) (l : List Float). seen x l (voicing_of deque)) value values
-        ∙ ap (seen (floor_of d.floor e).floor (held (history_of d.history e).count (history_of d.history e).list)) window)
+        ∙ ap (seen (floor_of d.floor e).floor (held (push_of d.history e).count (push_of d.history e).list)) window)
       where
         seen : Float → List Float → Voicing → Frame
         seen x l v = with_features (db_of (powers_of ran).full) (rust_features e x l v)
@@ -205,8 +205,8 @@ module _ (d : FeatureDetector) (r : RustDetector) (a : Agrees d r) (xs : List Fl
           few = deque-few d.decimated r.decimated (kept_of outputs) a.decimated a.few a.places;
           places = unfold keep_of in places-length d.decimated.count d.decimated.list (kept_of outputs) ∙ a.places;
           floor = floor-agrees d.floor r.floor a.floor e ok_floor;
-          history = unfold modulation_of history_of in one_more 40 d.history.count d.history.list r.history e a.history a.values (omega arith);
-          values = unfold modulation_of history_of in places-length d.history.count d.history.list (e ∷ []) ∙ a.values;
+          history = unfold modulation_of push_of in one_more 40 d.history.count d.history.list r.history e a.history a.values (omega arith);
+          values = unfold modulation_of push_of in places-length d.history.count d.history.list (e ∷ []) ∙ a.values;
         })
 
 pub fresh-agrees : Agrees fresh_of rust_fresh
@@ -216,7 +216,7 @@ fresh-agrees = record {
   decimated = unfold latest in refl;
   few = omega arith;
   places = unfold no_decimated in length-replicate 240 (of_bits binary32 0);
-  floor = record { smoothed = refl; window_min = refl; window_frames = refl; within = omega arith; minima = refl; places = unfold no_minima in length-replicate 8 zero64 };
+  floor = record { smoothed = refl; window_min = refl; window_frames = refl; within = omega arith; minima = refl; places = unfold zeros in length-replicate 8 zero64 };
   history = refl;
-  values = unfold no_history in length-replicate 40 zero64;
+  values = unfold zeros in length-replicate 40 zero64;
 }

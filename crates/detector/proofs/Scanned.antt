@@ -1,10 +1,11 @@
 -- The laws of a scan over lags, and of the energies that a window shares.
-use Rattle.std.proofs.Common.{◌≡◌, ℕ, suc, ◌+◌, ◌-◌, ◌<◌, ◌≤◌, Bool, true, false, List, length, take, drop, sym, ap, ◌∙◌, ap₂, arith, length-drop, length-take, take_all, take-add, le-ltb, lt-ltb}
-use mathlib.Core.List.{foldl, foldl-append}
+use Rattle.std.proofs.Common.{◌≡◌, ℕ, suc, ◌+◌, ◌<◌, ◌≤◌, Bool, true, false, List, length, take, drop, sym, ap, ◌∙◌, ap₂, arith, length-drop, length-take, take_all, take-add, le-ltb, lt-ltb, refl}
+use Rattle.std.proofs.lemmas.List.Sums.{fold-append}
+use Rattle.std.specs.List.{fold}
 use lib.Ieee.{Float}
 use Rattle.float.specs.Arithmetic.{zero64}
 use Rattle.sequence.specs.History.{held, latest}
-use Rattle.sequence.proofs.Latest.{latest-all}
+use Rattle.sequence.proofs.Deque.{latest-all}
 use Rattle.detector.specs.declared.voicing.Ends.{Ends}
 use Rattle.detector.specs.declared.voicing.Voicing.{Voicing}
 use Rattle.detector.specs.Voicing.{squared, energy_from, energy_of, lag_of, lags_of, uneven_of, silent, ends_of, start_of, window_of, voicing_of}
@@ -22,32 +23,32 @@ lags-end x e n lag p = rw p
 pub energy-more : (s : Float) (x : List Float) (m k : ℕ) → energy_from (energy_from s (take m x)) (take k (drop m x)) ≡ energy_from s (take (m + k) x)
 unfolding energy_from
 energy-more s x m k =
-    sym (foldl-append squared s (take m x) (take k (drop m x))) ∙ ap (foldl squared s) (sym (take-add m k x))
+    sym (fold-append squared s (take m x) (take k (drop m x))) ∙ ap (fold squared s) (sym (take-add m k x))
 
 -- a full window holds all places
 pub full-window : (count : ℕ) (places : List Float) → length places ≡ 240 → 240 ≤ count → latest 240 (held count places) ≡ places
 full-window count places e h = latest-all 240 (held count places) (simp length-take (omega arith)) ∙ take_all count places (omega arith)
 
-rest : (x : List Float) (k : ℕ) → take (length x - k) (drop k x) ≡ drop k x
-rest x k = take_all (length x - k) (drop k x) (simp length-drop (omega arith))
+module _ (x : List Float) (size : length x ≡ 240) (first second : Float) (b : Bool)
+    (one : first ≡ energy_from zero64 (take 120 x)) (two : second ≡ energy_from zero64 (take 120 (drop 120 x))) (u : b ≡ uneven_of first second) where
+  rest : (n k : ℕ) → n + k ≡ 240 → take n (drop k x) ≡ drop k x
+  rest n k e = take_all n (drop k x) (simp length-drop (omega arith))
 
-module _ (x : List Float) (first second : Float) (b : Bool)
-    (one : first ≡ energy_from zero64 (take 120 x)) (two : second ≡ energy_from zero64 (take (length x - 120) (drop 120 x))) (u : b ≡ uneven_of first second) where
   halves : uneven_of (energy_of (take 120 x)) (energy_of (drop 120 x)) ≡ b
-  halves = ap₂ uneven_of (sym one) (ap energy_of (sym (rest x 120)) ∙ sym two) ∙ sym u
+  halves = ap₂ uneven_of (sym one) (ap energy_of (sym (rest 120 120 refl)) ∙ sym two) ∙ sym u
 
   pub window-uneven : b ≡ true → silent ≡ window_of x
   unfolding window_of
   window-uneven t = rw (halves, t)
 
   pub window-even : (head tail : Float) (e : Ends) → b ≡ false → head ≡ energy_from first (take 105 (drop 120 x))
-      → tail ≡ energy_from zero64 (take (length x - 15) (drop 15 x))
+      → tail ≡ energy_from zero64 (take 225 (drop 15 x))
       → e ≡ lags_of x 61 15 (record { head = head; tail = tail; best = zero64; worst = zero64; finite = true })
       → ends_of e ≡ window_of x
   unfolding window_of start_of
   window-even head tail e t h l p =
       let he : head ≡ energy_of (take 225 x) = h ∙ ap (λ (s : Float). energy_from s (take 105 (drop 120 x))) one ∙ energy-more zero64 x 120 105 in
-      let ta : tail ≡ energy_of (drop 15 x) = l ∙ ap energy_of (rest x 15) in
+      let ta : tail ≡ energy_of (drop 15 x) = l ∙ ap energy_of (rest 225 15 refl) in
       rw (halves, t)
       (ap ends_of (p ∙ ap₂ (λ (y z : Float). lags_of x 61 15 (record { head = y; tail = z; best = zero64; worst = zero64; finite = true })) he ta))
 

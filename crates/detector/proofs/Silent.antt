@@ -1,5 +1,5 @@
 -- Samples that are all the same, and filters that they leave as they are.
-use Rattle.std.proofs.Common.{◌≡◌, ℕ, zero, suc, ◌+◌, ◌<◌, ◌≤◌, List, [], ◌∷◌, ◌++◌, length, take, set, replicate, refl, ap, ◌∙◌, append_assoc, append-nil, not-suc-le-zero, add-one, take_all, take-suc-set}
+use Rattle.std.proofs.Common.{◌≡◌, ℕ, zero, suc, ◌<◌, List, ◌∷◌, length, replicate, refl, ap, ◌∙◌, not-suc-le-zero}
 use mathlib.Core.List.{foldl}
 use lib.Ieee.{Float}
 use Rattle.detector.specs.declared.filters.Bands.{Bands}
@@ -30,11 +30,3 @@ quiet s v xs e h = record {
   runs = λ l. ap (run_of s) e ∙ first_run s v (length xs) h l;
   outputs = ap (outputs_of s) e ∙ first-outputs s v (length xs) h;
 }
-
--- ---- the same value in every place
-
-pub fill-turn : (y : Float) (out : List Float) (i n : ℕ) → i < length out → take (i + 1) (set out i y) ++ replicate n y ≡ take i out ++ replicate (suc n) y
-fill-turn y out i n h = rw (add-one, take-suc-set) (append_assoc (take i out) (y ∷ []) (replicate n y))
-
-pub fill_end : (y : Float) (out : List Float) (i : ℕ) → length out ≤ i → take i out ++ replicate 0 y ≡ out
-fill_end y out i h = append-nil (take i out) ∙ take_all i out h

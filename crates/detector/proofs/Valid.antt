@@ -1,5 +1,6 @@
 -- A fresh detector is valid, and a frame whose numbers are all finite leaves a valid detector.
-use Rattle.std.proofs.Common.{◌≡◌, ℕ, zero, suc, ◌<◌, Bool, true, false, T, eqb, ltb, List, [], ◌∷◌, length, get_or, refl, arith, ltb-true}
+use Rattle.sequence.specs.Latest.{push_of, zeros}
+use Rattle.std.proofs.Common.{◌≡◌, ℕ, zero, suc, ◌<◌, Bool, true, false, T, eqb, ltb, List, [], ◌∷◌, length, get_or, refl, arith, ltb-true, Option, Some, None}
 use mathlib.Core.List.{foldl}
 use lib.Ieee.{Float, nan, binary32, binary64, fits, lt, of_bits}
 use lib.Ieee.Fits.{add-fits, sub-fits, mul-fits, cond-fits}
@@ -13,15 +14,13 @@ use Rattle.logarithm.specs.Logarithm.{log10_of}
 use Rattle.level.proofs.Finite.{all-at}
 use Rattle.detector.specs.declared.filters.Filters.{Filters}
 use Rattle.detector.specs.declared.filters.Bands.{Bands}
-use Rattle.detector.specs.declared.floor.Smoothed.{Smoothed}
-use Rattle.detector.specs.declared.floor.Smoothed.TheVariants.{Unset, At}
 use Rattle.detector.specs.declared.floor.Floor.{Floor}
 use Rattle.detector.specs.declared.floor.Floored.{Floored}
 use Rattle.detector.specs.declared.FeatureDetector.{FeatureDetector}
 use Rattle.detector.specs.Steps.{silence_db, db_of}
 use Rattle.detector.specs.Filters.{begun, states_of, step_of, run_of, outputs_of, samples_of, no_decimated, kept_of, keep_of}
-use Rattle.detector.specs.Floor.{no_minima, smoothed_of, window_min_of, minima_of, next_of, stored_of, floor_of}
-use Rattle.detector.specs.Modulation.{no_history, history_of, modulation_of}
+use Rattle.detector.specs.Floor.{smoothed_of, window_min_of, next_of, stored_of, floor_of}
+use Rattle.detector.specs.Modulation.{modulation_of}
 use Rattle.detector.specs.Detector.{fresh_of, powers_of, finish_of, frame_of}
 use Rattle.detector.specs.Valid.{FiltersValid, FloorValid, Valid}
 use Rattle.detector.proofs.Told.{numbers, told}
@@ -85,10 +84,10 @@ db-fits p =
     let x = ten64 ⊗ log10_of p in
     cond-fits binary64 (lt zero64 p) (max_of x silence_db) silence_db (cond-fits binary64 (lt x silence_db) silence_db x silence-fits (mul-fits binary64 _ _)) silence-fits
 
-smoothed-fits : (o : Smoothed) (e : Float) → Fit64 e → Fit64 (smoothed_of o e)
+smoothed-fits : (o : Option Float) (e : Float) → Fit64 e → Fit64 (smoothed_of o e)
 unfolding smoothed_of
-smoothed-fits Unset e h = h
-smoothed-fits (At s) e h = add-fits binary64 _ _
+smoothed-fits None e h = h
+smoothed-fits (Some s) e h = add-fits binary64 _ _
 
 least_fits : (f : Floor) (s : Float) → Fit64 f.window_min → Fit64 s → Fit64 (window_min_of f s)
 unfolding window_min_of min_of
@@ -103,7 +102,7 @@ unfolding of_bits fits
 zero-num = (tt, tt)
 
 pub fresh_valid : Valid fresh_of
-unfolding no_decimated no_minima no_history
+unfolding no_decimated zeros
 fresh_valid = record {
   filters = record {
     high_pass = record { z1 = zero-num; z2 = zero-num };
@@ -142,7 +141,7 @@ module _ (f : Floor) (v : FloorValid f) (s m : Float) (hs : Num binary64 s) (hm 
         window_min = zero-num;
         empty = λ e. refl;
         window_frames = omega arith;
-        minima = unfold minima_of in counted-more (Num binary64) zero64 8 f.minima.count f.minima.list (m ∷ []) v.minima (one m hm);
+        minima = unfold push_of in counted-more (Num binary64) zero64 8 f.minima.count f.minima.list (m ∷ []) v.minima (one m hm);
       }
 
 module _ (d : FeatureDetector) (s : Bands) (ys : List Float) (v : Valid d) (fit : Fit s.filters) (ok : T (finish_of d s ys).finite) where
@@ -177,7 +176,7 @@ module _ (d : FeatureDetector) (s : Bands) (ys : List Float) (v : Valid d) (fit 
       (number 1 (omega arith), least_fits d.floor f.smoothed v.floor.window_min.1 (smoothed-fits d.floor.smoothed e e-fits))
 
   pub finish-valid : Valid (finish_of d s ys).detector
-  unfolding finish_of keep_of modulation_of history_of
+  unfolding finish_of keep_of modulation_of push_of
   finish-valid = record {
     filters = record {
       high_pass = record { z1 = (states 0 (omega arith), fit.h1); z2 = (states 1 (omega arith), fit.h2) };

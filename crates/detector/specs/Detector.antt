@@ -1,5 +1,6 @@
 -- One frame of the detector, on the port's record: for 480 samples the Rust's `FeatureDetector::frame`. Missing samples count as 0, and further
 -- ones aren't heard; the Rust takes any number of them.
+use Rattle.sequence.specs.Latest.{no_values}
 use Rattle.std.specs.Prelude.{Bool, cond, ◌&&◌, List, [], ◌∷◌, from_bits, Float}
 use Rattle.std.specs.Float.{binary64}
 use Rattle.std.specs.Float.Ieee.{lt}
@@ -22,7 +23,7 @@ use Rattle.detector.specs.declared.Heard.{Heard}
 use Rattle.detector.specs.Steps.{smoothstep_of, db_of}
 use Rattle.detector.specs.Filters.{samples_of, all_at_rest, begun, states_of, run_of, outputs_of, fresh_decimated, handed_of, kept_of, keep_of}
 use Rattle.detector.specs.Floor.{fresh_floor, floor_of}
-use Rattle.detector.specs.Modulation.{fresh_history, modulation_of}
+use Rattle.detector.specs.Modulation.{modulation_of}
 use Rattle.detector.specs.Voicing.{voicing_of}
 
 -- ---- fresh
@@ -32,7 +33,7 @@ fresh_of = record {
   filters = all_at_rest;
   decimated = fresh_decimated;
   floor = fresh_floor;
-  history = fresh_history;
+  history = no_values 40;
 }
 
 -- ---- the probability

@@ -1,53 +1,38 @@
 -- The noise floor by minimum statistics: the Rust's `FeatureDetector::floor`. An empty window has no minimum (the Rust's is infinite).
-use Rattle.std.specs.Prelude.{◌+◌, Bool, true, false, cond, List, [], ◌∷◌, replicate, ◌==◌, from_bits, nat_lt, Float}
-use mathlib.Core.List.{foldl}
+use Rattle.sequence.specs.Latest.{no_values, push_of}
+use Rattle.sequence.specs.declared.Latest.{Latest}
+use Rattle.std.specs.Prelude.{◌+◌, Bool, true, false, cond, ◌==◌, from_bits, nat_lt, Float, Option, Some, None, fold}
 use Rattle.std.specs.Float.{binary64}
 use Rattle.float.specs.Choice.{min_of}
-use Rattle.sequence.specs.History.{held, count_after, places_after}
+use Rattle.sequence.specs.History.{held}
 use Rattle.float.specs.Arithmetic.{◌⊕◌, ◌⊖◌, ◌⊗◌, zero64}
-use Rattle.detector.specs.declared.floor.Smoothed.{Smoothed}
-use Rattle.detector.specs.declared.floor.Smoothed.TheVariants.{Unset, At}
-use Rattle.detector.specs.declared.floor.Minima.{Minima}
 use Rattle.detector.specs.declared.floor.Floor.{Floor}
 use Rattle.detector.specs.declared.floor.Floored.{Floored}
 
-unfoldable pub no_minima : List Float
-no_minima = replicate 8 zero64
-
-abbrev pub fresh_minima : Minima
-fresh_minima = record { count = 0; list = no_minima }
-
 abbrev pub fresh_floor : Floor
 fresh_floor =
-    record { smoothed = Unset; window_min = zero64; window_frames = 0; minima = fresh_minima }
+    record { smoothed = None; window_min = zero64; window_frames = 0; minima = no_values 8 }
 
 -- 0.3
 abbrev pub smoothing : Float
 smoothing = from_bits binary64 0x3fd3333333333333
 
-unfoldable pub smoothed_of : Smoothed → Float → Float
-smoothed_of Unset e = e
-smoothed_of (At s) e = s ⊕ smoothing ⊗ (e ⊖ s)
+unfoldable pub smoothed_of : Option Float → Float → Float
+smoothed_of None e = e
+smoothed_of (Some s) e = s ⊕ smoothing ⊗ (e ⊖ s)
 
 -- the least of the window's values, with s
 unfoldable pub window_min_of : Floor → Float → Float
 window_min_of f s = cond (f.window_frames == 0) s (min_of f.window_min s)
 
--- one minimum more; the oldest of 8 goes
-unfoldable pub minima_of : Minima → Float → Minima
-minima_of m x = record { count = count_after 8 m.count 1; list = places_after m.count m.list (x ∷ []) }
-
 -- the least of m and of the minima of earlier windows
-unfoldable pub lowest_of : Float → List Float → Float
-lowest_of m xs = foldl min_of m xs
-
-unfoldable pub least_of : Float → Minima → Float
-least_of m l = lowest_of m (held l.count l.list)
+abbrev pub least_of : Float → Latest 8 → Float
+least_of m l = fold min_of m (held l.count l.list)
 
 -- with this frame the window of 25 is still open, or it is full: its minimum is kept, and a window begins
 abbrev pub next_of : Bool → Floor → Float → Float → Floor
-next_of true f s m = record { smoothed = At s; window_min = m; window_frames = f.window_frames + 1; minima = f.minima }
-next_of false f s m = record { smoothed = At s; window_min = zero64; window_frames = 0; minima = minima_of f.minima m }
+next_of true f s m = record { smoothed = Some s; window_min = m; window_frames = f.window_frames + 1; minima = f.minima }
+next_of false f s m = record { smoothed = Some s; window_min = zero64; window_frames = 0; minima = push_of f.minima m }
 
 unfoldable pub stored_of : Floor → Float → Float → Floor
 stored_of f s m = next_of (nat_lt f.window_frames 24) f s m

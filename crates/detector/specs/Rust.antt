@@ -1,6 +1,6 @@
 -- The Rust's `FeatureDetector` as its file has it: deques as lists, 300 decimated values, a sample phase, and a minimum that is infinite before
 -- a window's first frame.
-use Rattle.std.specs.Prelude.{ℕ, ◌+◌, max, false, cond, List, [], length, ◌==◌, Float}
+use Rattle.std.specs.Prelude.{ℕ, ◌+◌, max, false, cond, List, [], length, ◌==◌, Float, Option, Some, None, fold}
 use mathlib.Core.List.{foldl}
 use Rattle.std.specs.Float.{inf}
 use Rattle.float.specs.Choice.{min_of}
@@ -10,8 +10,6 @@ use Rattle.sequence.specs.History.{pushed}
 use Rattle.float.specs.Arithmetic.{◌⊖◌, ◌⊘◌, whole}
 use Rattle.detector.specs.declared.filters.Filters.{Filters}
 use Rattle.detector.specs.declared.filters.Bands.{Bands}
-use Rattle.detector.specs.declared.floor.Smoothed.{Smoothed}
-use Rattle.detector.specs.declared.floor.Smoothed.TheVariants.{Unset, At}
 use Rattle.detector.specs.declared.voicing.Voicing.{Voicing}
 use Rattle.detector.specs.declared.Features.{Features}
 use Rattle.detector.specs.declared.Frame.{Frame}
@@ -24,7 +22,7 @@ use Rattle.detector.specs.Detector.{with_features}
 
 -- the four fields that `floor` changes, a record of their own as in the port
 pub record RustFloor : Type 0 where
-  pub smoothed : Smoothed
+  pub smoothed : Option Float
   pub window_min : Float
   pub window_frames : ℕ
   pub minima : List Float
@@ -42,7 +40,7 @@ rust_fresh = record {
   filters = all_at_rest;
   phase = 0;
   decimated = [];
-  floor = record { smoothed = Unset; window_min = inf false; window_frames = 0; minima = [] };
+  floor = record { smoothed = None; window_min = inf false; window_frames = 0; minima = [] };
   history = [];
 }
 
@@ -77,14 +75,14 @@ pub record RustFloored : Type 0 where
 abbrev pub rust_stored : RustFloor → Float → Float → RustFloor
 rust_stored f s m =
     cond (f.window_frames + 1 == 25)
-    (record { smoothed = At s; window_min = inf false; window_frames = 0; minima = pushed 8 f.minima m })
-    (record { smoothed = At s; window_min = m; window_frames = f.window_frames + 1; minima = f.minima })
+    (record { smoothed = Some s; window_min = inf false; window_frames = 0; minima = pushed 8 f.minima m })
+    (record { smoothed = Some s; window_min = m; window_frames = f.window_frames + 1; minima = f.minima })
 
 unfoldable pub rust_floor : RustFloor → Float → RustFloored
 rust_floor f e =
     let s = smoothed_of f.smoothed e in
     let m = min_of f.window_min s in
-    record { next = rust_stored f s m; value = foldl min_of m f.minima }
+    record { next = rust_stored f s m; value = fold min_of m f.minima }
 
 -- ---- `frame`
 

@@ -1,13 +1,11 @@
 -- A detector that an image can hold: every number is finite and fits its format, at most 240, 8 and 40 values are held, the places after them
 -- are 0, and a window has 0 to 24 frames; the minimum of an empty one is 0.
-use Rattle.std.specs.Prelude.{◌≡◌, ◌≤◌, from_bits}
+use Rattle.std.specs.Prelude.{◌≡◌, ◌≤◌, from_bits, IfSome}
 use Rattle.std.specs.Float.{binary32, binary64}
 use Rattle.float.specs.Valid.{Num}
 use Rattle.sequence.specs.Counted.{Counted}
 use Rattle.float.specs.Arithmetic.{zero64}
 use Rattle.level.specs.Valid.{Settled}
-use Rattle.detector.specs.declared.floor.Smoothed.{Smoothed}
-use Rattle.detector.specs.declared.floor.Smoothed.TheVariants.{Unset, At}
 use Rattle.detector.specs.declared.filters.Filters.{Filters}
 use Rattle.detector.specs.declared.floor.Floor.{Floor}
 use Rattle.detector.specs.declared.FeatureDetector.{FeatureDetector}
@@ -18,13 +16,8 @@ pub record FiltersValid (f : Filters) : Type 0 where
   pub pitch1 : Settled f.pitch1
   pub pitch2 : Settled f.pitch2
 
--- nothing, or a number
-abbrev pub SmoothedValid : Smoothed → Type 0
-SmoothedValid Unset = Unit {0}
-SmoothedValid (At s) = Num binary64 s
-
 pub record FloorValid (f : Floor) : Type 0 where
-  pub smoothed : SmoothedValid f.smoothed
+  pub smoothed : IfSome f.smoothed (Num binary64)
   pub window_min : Num binary64 f.window_min
   pub empty : f.window_frames ≡ 0 → f.window_min ≡ zero64
   pub window_frames : f.window_frames ≤ 24

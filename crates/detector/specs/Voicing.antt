@@ -1,6 +1,5 @@
 -- The largest and the smallest normalised autocorrelation for pitch lags: the Rust's `FeatureDetector::voicing`, one lag after the other.
-use Rattle.std.specs.Prelude.{ℕ, zero, suc, ◌+◌, ◌-◌, Bool, true, cond, ◌&&◌, ◌||◌, List, [], ◌∷◌, length, take, drop, from_bits, nat_lt, slice_index_or, Float}
-use mathlib.Core.List.{foldl}
+use Rattle.std.specs.Prelude.{ℕ, zero, suc, ◌+◌, ◌-◌, Bool, true, cond, ◌&&◌, ◌||◌, List, length, take, drop, from_bits, nat_lt, slice_index_or, Float, fold, zip}
 use Rattle.std.specs.Float.{nan, binary64}
 use Rattle.std.specs.Float.Ieee.{lt}
 use Rattle.std.specs.Float.Ieee.Scale.{finite}
@@ -25,16 +24,17 @@ abbrev pub squared : Float → Float → Float
 squared s v = s ⊕ v ⊗ v
 
 unfoldable pub energy_from : Float → List Float → Float
-energy_from s xs = foldl squared s xs
+energy_from s xs = fold squared s xs
 
 abbrev pub energy_of : List Float → Float
 energy_of xs = energy_from zero64 xs
 
 -- the sum so far, and the products of two lists, as far as both go
+abbrev pub multiplied : Float → Float × Float → Float
+multiplied s p = s ⊕ p.0 ⊗ p.1
+
 unfoldable pub products_from : Float → List Float → List Float → Float
-products_from s [] ys = s
-products_from s (x ∷ xs) [] = s
-products_from s (x ∷ xs) (y ∷ ys) = products_from (s ⊕ x ⊗ y) xs ys
+products_from s xs ys = fold multiplied s (zip xs ys)
 
 -- x[i] * x[i + lag]
 unfoldable pub correlation_of : List Float → ℕ → Float

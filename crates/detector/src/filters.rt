@@ -1,19 +1,16 @@
 // The detector's filters over the samples of a frame: the speech band, 250 Hz to 4 kHz, and from its output the pitch filter, a low-pass of 1 kHz.
 // Every eighth output of the pitch filter is kept for the voicing.
-ghost use Rattle.std.specs.Prelude.{◌≡◌, ◌+◌, ◌-◌, ◌≤◌, T, ◌++◌, length, take, drop, replicate, slice_index_or};
-ghost use Rattle.std.proofs.Math.Seq.{paste};
+ghost use Rattle.std.specs.Prelude.{◌≡◌, T, length, take, slice_index_or};
 ghost use Rattle.std.specs.Float.{nan};
 ghost use Rattle.float.specs.AllFinite.{all_finite};
 ghost use Rattle.sequence.specs.History.{laid};
 ghost use Rattle.detector.specs.Filters.{
-  no_samples,
   all_at_rest,
   begun,
   states_of,
   step_of,
   run_of,
   outputs_of,
-  no_decimated,
   fresh_decimated,
   kept_of,
   keep_of,
@@ -104,6 +101,7 @@ impl Filters {
 
 impl Bands {
     // One sample through the four sections.
+    #[tactic(auto, unfolding(crate::specs::Filters::step_of))]
     pub fn step(self, v: f64) -> Bands
         ensures { result ≡ step_of self v }
     {
@@ -112,16 +110,12 @@ impl Bands {
         let b = f.low_pass.tick(biquad::BAND_LOW_PASS, a.y);
         let p = f.pitch1.tick(biquad::PITCH_1, b.y);
         let q = f.pitch2.tick(biquad::PITCH_2, p.y);
-        let high_pass = a.state;
-        let low_pass = b.state;
-        let pitch1 = p.state;
-        let pitch2 = q.state;
         Bands {
             filters: Filters {
-                high_pass,
-                low_pass,
-                pitch1,
-                pitch2,
+                high_pass: a.state,
+                low_pass: b.state,
+                pitch1: p.state,
+                pitch2: q.state,
             },
             full: self.full + v * v,
             band: self.band + b.y * b.y,
@@ -158,7 +152,7 @@ impl Bands {
         let v = xs[0];
         if self.quiet(v, xs) {
             let first = self.step(v);
-            fill(out, first.pitch);
+            out.fill(first.pitch);
             return first;
         }
         self.run(xs, out)
@@ -169,44 +163,20 @@ impl Bands {
         ensures { (result ≡ run_of self (take (length out.old) xs.now))
             × (out.new ≡ laid (outputs_of self (take (length out.old) xs.now)) out.old) }
     {
-        let n = sequence::least(out.len(), xs.len());
-        let mut i = 0;
-        while i < n {
+        for i in 0..out.len().min(xs.len()) {
             self = self.step(xs[i]);
             out[i] = self.pitch;
-            i += 1;
         }
         self
     }
-}
-
-// The value y in every place.
-fn fill(out: &mut [f64], y: f64)
-    ensures { out.new ≡ replicate (length out.old) y }
-{
-    let mut i = 0;
-    while i < out.len() {
-        out[i] = y;
-        i += 1;
-    }
-}
-
-// A place for each sample of a frame.
-pub fn no_samples() -> [f64; FRAME]
-    ensures { result ≡ no_samples }
-{
-    [0.0; FRAME]
 }
 
 // The samples xs as f64 in the lent places, as far as both go.
 pub fn samples(xs: &[f32], to: &mut [f64])
     ensures { to.new ≡ laid (take (length to.old) xs.now) to.old }
 {
-    let n = sequence::least(to.len(), xs.len());
-    let mut i = 0;
-    while i < n {
+    for i in 0..to.len().min(xs.len()) {
         to[i] = std::num::f32_to_f64_with_nan(xs[i]);
-        i += 1;
     }
 }
 
@@ -219,11 +189,14 @@ pub struct Decimated {
 
 impl Decimated {
     // No value yet.
+    #[tactic(auto, unfolding(crate::specs::Filters::no_decimated))]
     pub fn new() -> Self
         ensures { result ≡ fresh_decimated }
     {
-        let list = no_decimated();
-        Self { count: 0, list }
+        Self {
+            count: 0,
+            list: [0.0f32; PITCH_WINDOW],
+        }
     }
 
     // The values of a frame more; the oldest go where there is no room.
@@ -231,16 +204,16 @@ impl Decimated {
         ensures { result ≡ keep_of self ys }
     {
         let mut list = self.list;
-        let n = sequence::least(self.count, PITCH_WINDOW);
+        let n = self.count.min(PITCH_WINDOW);
         if n <= PITCH_WINDOW - KEPT {
-            store(&mut list, n, &ys);
+            list[n..n + KEPT].copy_from_slice(&ys);
             return Decimated {
                 count: n + KEPT,
                 list,
             };
         }
-        shift(&mut list, n - (PITCH_WINDOW - KEPT));
-        store(&mut list, PITCH_WINDOW - KEPT, &ys);
+        list.copy_within(n - (PITCH_WINDOW - KEPT).., 0);
+        list[PITCH_WINDOW - KEPT..].copy_from_slice(&ys);
         Decimated {
             count: PITCH_WINDOW,
             list,
@@ -248,63 +221,23 @@ impl Decimated {
     }
 }
 
-fn no_decimated() -> [f32; PITCH_WINDOW]
-    ensures { result ≡ no_decimated }
-{
-    [0.0f32; PITCH_WINDOW]
-}
-
-// Each value moves to the place k before its own; the first k go, and the last k places keep what they have.
-fn shift(v: &mut [f32], k: usize)
-    requires { k ≤ length v.old }
-    ensures { v.new ≡ drop k v.old ++ drop (length v.old - k) v.old }
-{
-    let n = v.len() - k;
-    let mut i = 0;
-    while i < n {
-        let y = v[i + k];
-        v[i] = y;
-        i += 1;
-    }
-}
-
-// The values xs in the places from `at` on.
-fn store(v: &mut [f32], at: usize, xs: &[f32])
-    requires { at + length xs.now ≤ length v.old }
-    ensures { v.new ≡ paste v.old at xs.now (length xs.now) }
-{
-    let mut i = 0;
-    while i < xs.len() {
-        v[at + i] = xs[i];
-        i += 1;
-    }
-}
-
 // The value at a place, and NaN past the end.
 fn output(ys: &[f64], at: usize) -> f64
     ensures { result ≡ slice_index_or ys.now at nan }
 {
-    if at < ys.len() {
-        return ys[at];
+    match ys.get(at) {
+        Some(y) => *y,
+        None => f64::NAN,
     }
-    0.0 / 0.0
-}
-
-fn none_kept() -> [f32; KEPT]
-    ensures { length result ≡ 60 }
-{
-    [0.0f32; KEPT]
 }
 
 // Every eighth output of a frame, the last of each eight, as f32.
 pub fn decimate(ys: &[f64]) -> [f32; KEPT]
     ensures { result ≡ kept_of ys.now }
 {
-    let mut v = none_kept();
-    let mut i = 0;
-    while i < KEPT {
-        v[i] = narrow::narrow(output(ys, i * DECIMATE + LAST));
-        i += 1;
+    let mut v = [0.0f32; KEPT];
+    for (i, y) in v.iter_mut().enumerate() {
+        *y = narrow::narrow(output(ys, i * DECIMATE + LAST));
     }
     v
 }

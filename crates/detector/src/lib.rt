@@ -14,10 +14,12 @@ ghost use Rattle.detector.specs.Filters.{states_of};
 ghost use Rattle.detector.specs.Detector.{fresh_of, powers_of, numbers_of, probability_of, shown_of, finish_of, frame_of};
 
 use filters::KEPT;
-pub use filters::{Bands, Decimated, Filters, no_samples, samples};
-pub use floor::{Floor, Floored, Minima, Smoothed};
+pub use filters::{Bands, Decimated, Filters, samples};
+pub use floor::{Floor, Floored};
 use level::FRAME;
-pub use modulation::{History, Modulated};
+use modulation::MODULATION_FRAMES;
+pub use modulation::{Modulated, modulation_with};
+use sequence::Latest;
 pub use voicing::Voicing;
 
 // A power below this counts as this, dB.
@@ -27,6 +29,7 @@ const SILENCE_DB: f64 = -120.0;
 const TONE_LIMIT: f64 = -0.93;
 
 // 0 up to lo, 1 from hi on, and smooth between.
+#[tactic(auto, unfolding(crate::specs::Steps::smoothstep_of))]
 pub fn smoothstep(x: f64, lo: f64, hi: f64) -> f64
     ensures { result ≡ smoothstep_of x lo hi }
 {
@@ -35,6 +38,7 @@ pub fn smoothstep(x: f64, lo: f64, hi: f64) -> f64
 }
 
 // dB of a power, at the silence floor for none.
+#[tactic(auto, unfolding(crate::specs::Steps::db_of))]
 pub fn db(power: f64) -> f64
     ensures { result ≡ db_of power }
 {
@@ -75,10 +79,11 @@ pub struct FeatureDetector {
     pub filters: Filters,
     pub decimated: Decimated,
     pub floor: Floor,
-    pub history: History,
+    pub history: Latest<MODULATION_FRAMES>,
 }
 
 // The detector after a frame, what it saw, and whether every number that is stored, or handed to the logarithm, the root or the narrowing, is finite.
+// A flag beside the values, which are promised whatever it says, since the numbers of both strands are tested together.
 #[derive(Clone, Copy)]
 pub struct Heard {
     pub detector: FeatureDetector,
@@ -88,6 +93,7 @@ pub struct Heard {
 
 impl Features {
     // The speech probability: energy times modulation times (0.3 + 0.7 * voicing), each a smooth step from 0 to 1; 0 for a pure tone.
+    #[tactic(auto, unfolding(crate::specs::Detector::probability_of))]
     pub fn probability(self) -> f64
         ensures { result ≡ probability_of self }
     {
@@ -103,10 +109,11 @@ impl Features {
 
 impl Bands {
     // The powers, after the last sample of a frame.
+    #[tactic(auto, unfolding(crate::specs::Detector::powers_of))]
     fn powers(self) -> FramePowers
         ensures { result ≡ powers_of self }
     {
-        let samples = std::num::nearest_u64_to_f64(FRAME as u64);
+        let samples = std::num::nearest_usize_to_f64(FRAME);
         let band = self.band / samples;
         FramePowers {
             full: self.full / samples,
@@ -117,6 +124,7 @@ impl Bands {
 }
 
 // What the detector shows of a frame.
+#[tactic(auto, unfolding(crate::specs::Detector::shown_of))]
 fn shown(powers: FramePowers, floored: Floored, modulated: Modulated, voicing: Voicing) -> Frame
     ensures { result ≡ shown_of powers floored modulated voicing }
 {
@@ -154,7 +162,7 @@ fn numbers_finite(
         modulated.variance,
     ];
     let stored = filters.all_finite() & float::all_finite(&numbers);
-    stored & (float::all_finite32(&values) & voicing.finite)
+    stored & (float::all_finite(&values) & voicing.finite)
 }
 
 impl FeatureDetector {
@@ -166,7 +174,7 @@ impl FeatureDetector {
             filters: Filters::new(),
             decimated: Decimated::new(),
             floor: Floor::new(),
-            history: History::new(),
+            history: Latest::new(),
         }
     }
 
@@ -178,22 +186,18 @@ impl FeatureDetector {
         let values = filters::decimate(ys);
         let decimated = self.decimated.keep(values);
         let floored = self.floor.floor(powers.e);
-        let modulated = self.history.modulation(powers.e);
+        let modulated = modulation_with(self.history, powers.e);
         let voicing = decimated.voicing();
         let frame = shown(powers, floored, modulated, voicing);
-        let filters = bands.filters;
-        let finite = numbers_finite(filters, powers, values, floored, modulated, voicing);
-        let floor = floored.next;
-        let history = modulated.next;
         Heard {
             detector: FeatureDetector {
-                filters,
+                filters: bands.filters,
                 decimated,
-                floor,
-                history,
+                floor: floored.next,
+                history: modulated.next,
             },
             frame,
-            finite,
+            finite: numbers_finite(bands.filters, powers, values, floored, modulated, voicing),
         }
     }
 
@@ -201,9 +205,9 @@ impl FeatureDetector {
     pub fn frame(self, xs: &[f32]) -> Heard
         ensures { result ≡ frame_of self xs.now }
     {
-        let mut x = no_samples();
+        let mut x = [0.0; FRAME];
         samples(xs, &mut x);
-        let mut ys = no_samples();
+        let mut ys = [0.0; FRAME];
         let bands = self.filters.begin().run(&x, &mut ys);
         self.finish(bands, &ys)
     }

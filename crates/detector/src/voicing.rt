@@ -38,7 +38,8 @@ const TINY: f64 = 1e-12;
 const EVEN: f64 = 0.1;
 
 // At a lag: the energies of the window without its last values (head) and without its first (tail), as many as the lag has; the largest and the
-// smallest normalised autocorrelation so far; and whether every number that went to the root was finite.
+// smallest normalised autocorrelation so far; and whether every number that went to the root was finite. The flag stands beside the values, here and
+// below, since they are promised whatever it says.
 #[derive(Clone, Copy)]
 pub struct Ends {
     pub head: f64,
@@ -56,36 +57,30 @@ pub struct Voicing {
     pub finite: bool,
 }
 
+// What is read where nothing can be periodic.
+const SILENT: Voicing = Voicing {
+    voiced: 0.0,
+    anti: 0.0,
+    finite: true,
+};
+
 // The sum, and to it the squares of the values.
+#[tactic(auto, unfolding(crate::specs::Voicing::energy_from))]
 fn energy(from: f64, xs: &[f64]) -> f64
     ensures { result ≡ energy_from from xs.now }
 {
-    let mut sum = from;
-    let mut i = 0;
-    while i < xs.len() {
-        let v = xs[i];
-        sum = sum + v * v;
-        i += 1;
-    }
-    sum
+    xs.iter().fold(from, |sum, v| sum + *v * *v)
 }
 
-// The sum, and to it x[i] * x[i + lag] for each i from `from` on.
-fn products(sum: f64, x: &[f64], from: usize, lag: usize) -> f64
-    requires { from + lag ≤ length x.now }
-    ensures { result ≡ products_from sum (drop from x.now) (drop (from + lag) x.now) }
+// The sum, and to it the products of two lists, as far as both go.
+#[tactic(auto, unfolding(crate::specs::Voicing::products_from))]
+fn products(sum: f64, xs: &[f64], ys: &[f64]) -> f64
+    ensures { result ≡ products_from sum xs.now ys.now }
 {
-    let n = x.len() - lag;
-    let mut s = sum;
-    let mut i = from;
-    while i < n {
-        s = s + x[i] * x[i + lag];
-        i += 1;
-    }
-    s
+    xs.iter().zip(ys).fold(sum, |sum, (x, y)| sum + *x * *y)
 }
 
-// The sums of eight lags.
+// The sums of eight lags, each a number of its own: of such sums the processor computes two at once, and of an array's one by one.
 #[derive(Clone, Copy)]
 struct Eight {
     s0: f64,
@@ -147,14 +142,15 @@ impl Eight {
         requires { i + lag + 7 ≡ length x.now }
         ensures { Left x.now lag i self → Correlations x.now lag result }
     {
+        let ahead = &x[i..];
         Eight {
-            s0: products(self.s0, x, i, lag),
-            s1: products(self.s1, x, i, lag + 1),
-            s2: products(self.s2, x, i, lag + 2),
-            s3: products(self.s3, x, i, lag + 3),
-            s4: products(self.s4, x, i, lag + 4),
-            s5: products(self.s5, x, i, lag + 5),
-            s6: products(self.s6, x, i, lag + 6),
+            s0: products(self.s0, ahead, &x[i + lag..]),
+            s1: products(self.s1, ahead, &x[i + lag + 1..]),
+            s2: products(self.s2, ahead, &x[i + lag + 2..]),
+            s3: products(self.s3, ahead, &x[i + lag + 3..]),
+            s4: products(self.s4, ahead, &x[i + lag + 4..]),
+            s5: products(self.s5, ahead, &x[i + lag + 5..]),
+            s6: products(self.s6, ahead, &x[i + lag + 6..]),
             s7: self.s7,
         }
     }
@@ -168,28 +164,19 @@ fn eight_lags(x: &[f64], lag: usize) -> Eight
 {
     let n = x.len() - lag - 7;
     let mut e = Eight::new();
-    let mut i = 0;
-    while i < n {
+    for i in 0..n {
         e = e.more(x, i, lag);
-        i += 1;
     }
-    e.rest(x, i, lag)
-}
-
-fn no_sums() -> [f64; LAGS]
-    ensures { length result ≡ 64 }
-{
-    [0.0; LAGS]
+    e.rest(x, n, lag)
 }
 
 // The correlations for the lags 15 to 78; those to 75 are used.
-fn correlations(x: &[f64]) -> [f64; LAGS]
-    requires { length x.now ≡ 240 }
+fn correlations(x: &[f64; PITCH_WINDOW]) -> [f64; LAGS]
     ensures { (k : ℕ) → k < 64 → slice_index_or result k nan ≡ correlation_of x.now (k + 15) }
 {
-    let mut t = no_sums();
-    let mut k = 0;
-    while k < LAGS {
+    let mut t = [0.0; LAGS];
+    for eight in 0..LAGS / 8 {
+        let k = 8 * eight;
         let g = eight_lags(x, k + LAG_MIN);
         t[k] = g.s0;
         t[k + 1] = g.s1;
@@ -199,15 +186,14 @@ fn correlations(x: &[f64]) -> [f64; LAGS]
         t[k + 5] = g.s5;
         t[k + 6] = g.s6;
         t[k + 7] = g.s7;
-        k += 8;
     }
     t
 }
 
 impl Ends {
     // The energies at a lag, from those at the lag before; those at the first lag are given.
-    fn at_lag(mut self, x: &[f64], lag: usize) -> Ends
-        requires { (length x.now ≡ 240) × (15 ≤ lag) × (lag < 76) }
+    fn at_lag(mut self, x: &[f64; PITCH_WINDOW], lag: usize) -> Ends
+        requires { (15 ≤ lag) × (lag < 76) }
         ensures { result ≡ energies_at x.now lag self }
     {
         if LAG_MIN < lag {
@@ -222,6 +208,7 @@ impl Ends {
 
     // With a lag's correlation, `sum`. A root below 1e-12 is passed over; the root of a negative number is NaN, and max and min pass over what
     // comes of it.
+    #[tactic(auto, unfolding(crate::specs::Voicing::turn_of))]
     fn turn(mut self, sum: f64) -> Ends
         ensures { result ≡ turn_of self sum }
     {
@@ -238,34 +225,26 @@ impl Ends {
     }
 
     // All lags.
-    fn lags(mut self, x: &[f64]) -> Ends
-        requires { length x.now ≡ 240 }
+    fn lags(mut self, x: &[f64; PITCH_WINDOW]) -> Ends
         ensures { result ≡ lags_of x.now 61 15 self }
     {
         let sums = correlations(x);
-        let mut lag = LAG_MIN;
-        while lag <= LAG_MAX {
+        for lag in LAG_MIN..LAG_MAX + 1 {
             let e = self.at_lag(x, lag);
             self = e.turn(sums[lag - LAG_MIN]);
-            lag += 1;
         }
         self
     }
 }
 
 // The voicing of 240 values. The sum of the first half's energy is the beginning of the head's.
-fn window(x: &[f64]) -> Voicing
-    requires { length x.now ≡ 240 }
+fn window(x: &[f64; PITCH_WINDOW]) -> Voicing
     ensures { result ≡ window_of x.now }
 {
     let first = energy(0.0, &x[..HALF]);
     let second = energy(0.0, &x[HALF..]);
     if uneven(first, second) {
-        return Voicing {
-            voiced: 0.0,
-            anti: 0.0,
-            finite: true,
-        };
+        return SILENT;
     }
     let head = energy(first, &x[HALF..HEAD]);
     let tail = energy(0.0, &x[LAG_MIN..]);
@@ -285,6 +264,7 @@ fn window(x: &[f64]) -> Voicing
 }
 
 // Whether the halves' energies aren't within 10 dB, or one of them is silent.
+#[tactic(auto, unfolding(crate::specs::Voicing::uneven_of))]
 fn uneven(first: f64, second: f64) -> bool
     ensures { result ≡ uneven_of first second }
 {
@@ -293,21 +273,13 @@ fn uneven(first: f64, second: f64) -> bool
     (low < TINY) | (low < EVEN * high)
 }
 
-fn no_window() -> [f64; PITCH_WINDOW]
-    ensures { length result ≡ 240 }
-{
-    [0.0; PITCH_WINDOW]
-}
-
 // The same values as f64.
 fn widened(d: [f32; PITCH_WINDOW]) -> [f64; PITCH_WINDOW]
     ensures { result ≡ d }
 {
-    let mut v = no_window();
-    let mut i = 0;
-    while i < PITCH_WINDOW {
-        v[i] = std::num::f32_to_f64_with_nan(d[i]);
-        i += 1;
+    let mut v = [0.0; PITCH_WINDOW];
+    for (i, y) in v.iter_mut().enumerate() {
+        *y = std::num::f32_to_f64_with_nan(d[i]);
     }
     v
 }
@@ -319,14 +291,8 @@ impl Decimated {
         ensures { result ≡ voicing_of (held self.count self.list) }
     {
         if self.count < PITCH_WINDOW {
-            return Voicing {
-                voiced: 0.0,
-                anti: 0.0,
-                finite: true,
-            };
+            return SILENT;
         }
-        let list = self.list;
-        let x = widened(list);
-        window(&x)
+        window(&widened(self.list))
     }
 }

@@ -1,10 +1,9 @@
 // What `--help` prints.
 use program::output;
-use program::output::Output;
+use std::io::Write;
 
 pub fn print(rt: &HostRuntime) {
-    let mut to = Output::new(rt.stdout());
-    let written = to.write(
+    let written = rt.stdout().write_all(
         b"duckline: by how much a stadium goes down under its commentator\n\
           \n\
           tools/weave KEY BED | duckline > lines\n\
@@ -46,7 +45,7 @@ pub fn print(rt: &HostRuntime) {
           The exit status says nothing: a run went well where standard error is empty. A pipe\n\
           whose reader is gone ends the program without a word.\n",
     );
-    if !written {
-        output::complain(&to, &mut rt.stderr(), b"duckline");
+    if let Err(why) = written {
+        output::complain(&why, &mut rt.stderr(), b"duckline");
     }
 }

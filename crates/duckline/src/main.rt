@@ -5,104 +5,61 @@
 
 mod help;
 
-ghost use Rattle.std.specs.Prelude.{◌≡◌, ◌≤◌, length};
-ghost use Rattle.frame_bytes.specs.Bytes.{buffer_bytes};
-ghost use Rattle.line_text.specs.Line.{text_bytes};
-ghost use Rattle.duckline.specs.Ending.{ending_of};
-
-use beds::{Bed, Found};
+use beds::Bed;
 use frame_bytes::BUFFER;
 use line_text::TEXT;
 use program::arguments::Request;
-use program::input::{Got, Input};
-use program::output::Output;
 use program::{arguments, input, output};
-use std::io::{Stdin, Stdout};
+use std::io;
+use std::io::{Stdin, Stdout, Write};
 
-// How the lines ended.
-#[derive(Clone, Copy)]
-enum Ending {
-    // With the input: so many bytes are left over.
-    Ended(usize),
-    // With a read that failed.
-    Unread,
-    // With a write that failed.
-    Unwritten,
+// Why the lines end before the input does.
+#[derive(Drop)]
+enum Failure {
+    // A read failed.
+    Unread(io::Error),
+    // A write failed.
+    Unwritten(io::Error),
 }
 
-// How the lines end with a read that brings nothing, where so many bytes are held.
-fn stopped(got: Got, held: usize) -> Ending
-    ensures { result ≡ ending_of got held }
-{
-    match got {
-        Got::Bytes(_) => Ending::Ended(held),
-        Got::End => Ending::Ended(held),
-        Got::Failed => Ending::Unread,
-    }
-}
-
-// Writes the first n bytes of the text, and answers whether that could be done.
-fn write(to: &mut Output<Stdout>, text: &[u8; TEXT], n: usize) -> bool
-    requires { n ≤ text_bytes }
-{
-    let whole: &[u8] = text;
-    to.write(&whole[..n])
-}
-
-// The lines of all whole frames.
+// The lines of all whole frames, and how many bytes are left over.
 fn all_frames(
     bed: Bed,
-    from: &mut Input<Stdin>,
+    from: &mut Stdin,
     buffer: &mut [u8; BUFFER],
     text: &mut [u8; TEXT],
-    to: &mut Output<Stdout>,
-) -> Ending {
+    to: &mut Stdout,
+) -> Result<usize, Failure> {
     let mut run = ducklines::fresh_run(bed.layout());
     let mut held: usize = 0;
-    let mut turns = u64::MAX;
-    while 0 < turns {
-        let got = input::read(from, buffer, held);
-        let Got::Bytes(count) = got else {
-            return stopped(got, held);
-        };
-        let t = ducklines::after_read(run, buffer, held + count, text);
-        let next = t.run;
-        run = next;
-        held = t.held;
-        if write(to, text, run.end) {
-            turns -= 1;
-        } else {
-            return Ending::Unwritten;
+    for _ in 0..u64::MAX {
+        let count = input::read(from, buffer, held).map_err(Failure::Unread)?;
+        if count == 0 {
+            break;
         }
+        let next = ducklines::after_read(run, buffer, held + count, text);
+        run = next.run;
+        held = next.held;
+        to.write_all(&text[..run.end]).map_err(Failure::Unwritten)?;
     }
-    Ending::Ended(held)
+    Ok(held)
 }
 
-// The line of so many leftover bytes, where there are any.
-fn leftover(rt: &HostRuntime, text: &mut [u8; TEXT], left: usize, to: &mut Output<Stdout>) {
-    let end = line_text::short(text, left);
-    if !write(to, text, end) {
-        output::complain(to, &mut rt.stderr(), b"duckline");
-    }
-}
-
-fn buffer() -> [u8; BUFFER]
-    ensures { buffer_bytes ≡ length result }
-{
-    [0; BUFFER]
-}
-
-// All of the input.
-fn run(rt: &HostRuntime, bed: Bed) {
-    let mut from = Input::new(rt.stdin());
-    let mut to = Output::new(rt.stdout());
-    let mut buffer = buffer();
+// All of the input: the lines of its frames, then that of the bytes that are left over, if there are any.
+fn lines(bed: Bed, from: &mut Stdin, to: &mut Stdout) -> Result<(), Failure> {
+    let mut buffer = [0u8; BUFFER];
     let mut text = [0u8; TEXT];
-    let ending = all_frames(bed, &mut from, &mut buffer, &mut text, &mut to);
-    match ending {
-        Ending::Ended(left) => leftover(rt, &mut text, left, &mut to),
-        Ending::Unread => input::complain(&from, &mut rt.stderr(), b"duckline"),
-        Ending::Unwritten => output::complain(&to, &mut rt.stderr(), b"duckline"),
+    let left = all_frames(bed, from, &mut buffer, &mut text, to)?;
+    let end = line_text::short(&mut text, left);
+    to.write_all(&text[..end]).map_err(Failure::Unwritten)
+}
+
+// The same, and what is said where it fails.
+fn run(rt: &HostRuntime, bed: Bed) {
+    match lines(bed, &mut rt.stdin(), &mut rt.stdout()) {
+        Ok(()) => {}
+        Err(Failure::Unread(why)) => input::complain(&why, &mut rt.stderr(), b"duckline"),
+        Err(Failure::Unwritten(why)) => output::complain(&why, &mut rt.stderr(), b"duckline"),
     }
 }
 
@@ -121,10 +78,9 @@ fn hint_at_names(rt: &HostRuntime) {
 fn run_named(rt: &HostRuntime) {
     let mut word = [0u8; WORD];
     let n = arguments::get(rt, 2, &mut word);
-    let found = beds::find(&word[..n]);
-    match found {
-        Found::Known(bed) => run(rt, bed),
-        Found::Unknown => {
+    match beds::find(&word[..n]) {
+        Some(bed) => run(rt, bed),
+        None => {
             arguments::refuse(&mut rt.stderr(), b"duckline", b"unknown bed", &word[..n]);
             hint_at_names(rt);
         }

@@ -13,7 +13,7 @@ use Rattle.line_text.specs.Line.{text_bytes, line_of}
 use Rattle.ducklines.specs.declared.Run.{Run}
 use Rattle.ducklines.specs.Frames.{Ran, AfterRead, heard_of, ran_of, count_of, frames_in, among_in, after_read_in}
 use Rattle.frame_bytes.proofs.Samples.{samples_append, samples-drop}
-use Rattle.frame_bytes.proofs.Sizes.{frame-least, frame-samples}
+use Rattle.frame_bytes.proofs.Sizes.{frame_least, frame-samples}
 use Rattle.frame_bytes.proofs.Kept.{kept-length}
 use Rattle.ducklines.proofs.Ran.{ran-count, ran-length, few-frames}
 use Rattle.ducklines.specs.Reads.{Reading, beginning, read_of, reads_of, joined, written_of, AnyReads}
@@ -26,7 +26,7 @@ unfolding ran_of
 ran_append m c n b d zero h = refl
 ran_append m c n b d (suc k) h =
     let size = frame-samples m in
-    let least = frame-least m in
+    let least = frame_least m in
     λ j. heard_of
     (ran_append m c n b d k (omega arith) j)
     (samples_append b d (k * frame_bytes m) 480 (omega arith) j)
@@ -78,7 +78,7 @@ module _ (m : ℕ) (c : Chain) (n : ℕ) (b got : List ℕ) where
 
   frames-add : length (b ++ got) / size ≡ first + second
   frames-add =
-      let some : 0 < size = omega (arith, frame-least m) in
+      let some : 0 < size = omega (arith, frame_least m) in
       let e : length (b ++ got) ≡ first * size + length left = omega (arith, frames-whole, length-append b got, length-append (drop (first * size) b) got, length-drop (first * size) b) in
       ap (λ (x : ℕ). x / size) e ∙ mul-add-div_right some first (length left)
 

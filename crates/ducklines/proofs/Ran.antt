@@ -11,7 +11,7 @@ use Rattle.chain.specs.declared.Framed.{Framed}
 use Rattle.chain.specs.Chain.{frame_of}
 use Rattle.frame_bytes.specs.Bytes.{bed_samples, frame_bytes, buffer_bytes, key_at, bed_at, kept_of}
 use Rattle.frame_bytes.proofs.Samples.{bed-first}
-use Rattle.frame_bytes.proofs.Sizes.{frame-least, frame-most}
+use Rattle.frame_bytes.proofs.Sizes.{frame_least, frame_most}
 use Rattle.line_text.specs.Line.{text_bytes, line_of, put_at}
 use Rattle.ducklines.specs.Frames.{Ran, Written, AfterRead, heard_of, ran_of, count_of, frame_in, frames_in, among_in, after_read_in}
 use Rattle.ducklines.specs.declared.Run.{Run}
@@ -51,9 +51,9 @@ heard-frame c b k key before bed r e f g = e ∙ (λ j. frame_of c (f j) (bed-fi
 abbrev written_in : Ran → List ℕ → Written
 written_in r t = record { run = record { chain = r.chain; number = r.number; end = length r.text }; bytes = laid t 0 r.text }
 
-pub frames-zero : (s : Run) (b t : List ℕ) → record { run = record { chain = s.chain; number = s.number; end = 0 }; bytes = t } ≡ frames_in s b 0 t
+pub frames_zero : (s : Run) (b t : List ℕ) → record { run = record { chain = s.chain; number = s.number; end = 0 }; bytes = t } ≡ frames_in s b 0 t
 unfolding frames_in ran_of
-frames-zero s b t = λ j. record { run = record { chain = s.chain; number = s.number; end = 0 }; bytes = (none_yet t 0).is j }
+frames_zero s b t = λ j. record { run = record { chain = s.chain; number = s.number; end = 0 }; bytes = (none_yet t 0).is j }
 
 -- one frame more, whose bed has m channels
 abbrev next_in : ℕ → Ran → List ℕ → ℕ → List ℕ → Written
@@ -74,26 +74,26 @@ frames-next s b k t =
     ∙ ap (λ (q : Ran). written_in q t) (sym (ran-next m s.chain s.number b k))
 
 -- a turn of the loop over the frames
-pub frames-turn : (w next : Written) (s : Run) (b : List ℕ) (k : ℕ) (t : List ℕ) → w ≡ frames_in s b k t → next ≡ frame_in w.run b k w.bytes → next ≡ frames_in s b (k + 1) t
-frames-turn w next s b k t e f = f ∙ ap (λ (x : Written). frame_in x.run b k x.bytes) e ∙ frames-next s b k t
+pub frames_turn : (w next : Written) (s : Run) (b : List ℕ) (k : ℕ) (t : List ℕ) → w ≡ frames_in s b k t → next ≡ frame_in w.run b k w.bytes → next ≡ frames_in s b (k + 1) t
+frames_turn w next s b k t e f = f ∙ ap (λ (x : Written). frame_in x.run b k x.bytes) e ∙ frames-next s b k t
 
-pub frames-end : (w : Written) (s : Run) (b : List ℕ) (k : ℕ) (t : List ℕ) → w ≡ frames_in s b k t → w.run.end ≤ 64 * k
+pub frames_end : (w : Written) (s : Run) (b : List ℕ) (k : ℕ) (t : List ℕ) → w ≡ frames_in s b k t → w.run.end ≤ 64 * k
 unfolding frames_in
-frames-end w s b k t e = omega (arith, ap (λ (x : Written). x.run.end) e, ran-length (count_of s.chain) s.chain s.number b k)
+frames_end w s b k t e = omega (arith, ap (λ (x : Written). x.run.end) e, ran-length (count_of s.chain) s.chain s.number b k)
 
 -- ---- after a read
 
 -- 16 whole frames at most are in a buffer
 pub few-frames : (m n f : ℕ) → f ≡ frame_bytes m → n ≤ buffer_bytes → n / f ≤ 16
-few-frames m n f e h = let g : 3840 ≤ f = omega (arith, frame-least m) in omega (arith, div-mul-le_self n f, mul-le-mul_left (n / f) g)
+few-frames m n f e h = let g : 3840 ≤ f = omega (arith, frame_least m) in omega (arith, div-mul-le_self n f, mul-le-mul_left (n / f) g)
 
 -- less than a frame is held, so less than one of eight channels, and the text has room
 pub read_held : (a : AfterRead) (s : Run) (b : List ℕ) (n : ℕ) (t : List ℕ) → a ≡ after_read_in s b n t → a.next.held < 17280
 unfolding after_read_in among_in kept_of
 read_held a s b n t e =
     let m = count_of s.chain in
-    let some : 0 < frame_bytes m = omega (arith, frame-least m) in
-    omega (arith, ap (λ (x : AfterRead). x.next.held) e, lt-div-mul-add {a = min n buffer_bytes} some, frame-most m)
+    let some : 0 < frame_bytes m = omega (arith, frame_least m) in
+    omega (arith, ap (λ (x : AfterRead). x.next.held) e, lt-div-mul-add {a = min n buffer_bytes} some, frame_most m)
 
 pub read-end : (a : AfterRead) (s : Run) (b : List ℕ) (n : ℕ) (t : List ℕ) → a ≡ after_read_in s b n t → a.next.run.end ≤ text_bytes
 unfolding after_read_in among_in frames_in

@@ -2,7 +2,7 @@
 // depend on how the input is cut into reads is specs/Reads.antt, which `promises` holds.
 #![tactic(auto)]
 
-ghost use Rattle.std.specs.Prelude.{◌≡◌, ◌+◌, ◌≤◌, length, take};
+ghost use Rattle.std.specs.Prelude.{◌≡◌, ◌+◌, ◌<◌, ◌≤◌, take};
 ghost use Rattle.chain.specs.Chain.{frame_of};
 ghost use Rattle.frame_bytes.specs.Bytes.{bed_samples};
 ghost use Rattle.line_text.specs.Line.{text_bytes};
@@ -35,14 +35,12 @@ pub fn fresh_run(layout: Layout) -> Run
 }
 
 // A frame whose bed is at the start of some samples.
+#[tactic(auto, using(frame_bytes::proofs::Sizes::bed_most))]
 fn heard(chain: Chain, key: &[f32; level::FRAME], bed: &[f32; BED]) -> Framed
     ensures { result ≡ frame_of chain key.now (take (bed_samples (count_of chain)) bed.now) }
 {
     let n = frame_bytes::bed_samples(chain.surround.layout.count);
-    let places: &[f32] = bed;
-    let samples = &places[..n];
-    let voice: &[f32] = key;
-    chain.frame(voice, samples)
+    chain.frame(key, &bed[..n])
 }
 
 // Frame i of the buffer; its line goes behind those of the frames before it. `bed` is lent for the bed's samples.
@@ -64,29 +62,21 @@ fn frame(
     let chain = f.chain;
     Run {
         chain,
-        number: std::num::wrapping_add_u64(run.number, 1),
+        number: run.number.wrapping_add(1),
         end: line_text::frame(text, run.end as u16, run.number, outcome),
     }
 }
 
-fn no_bed() -> [f32; BED]
-    ensures { length result ≡ 3840 }
-{
-    [0.0; BED]
-}
-
 // The frames at the start of the buffer; their lines, at the start of the text.
+#[tactic(auto, using(crate::proofs::Ran::frames_zero), unfolding(crate::specs::Frames::frames_in))]
 fn frames(run: Run, buffer: &[u8; BUFFER], count: u16, text: &mut [u8; TEXT]) -> Run
     requires { count ≤ 16 }
     ensures { record { run = result; bytes = text.new } ≡ frames_in run buffer.now count text.old }
 {
-    let mut bed = no_bed();
-    let mut s = run;
-    s.end = 0;
-    let mut i: u16 = 0;
-    while i < count {
+    let mut bed = [0.0; BED];
+    let mut s = Run { end: 0, ..run };
+    for i in 0..count {
         s = frame(s, buffer, i, &mut bed, text);
-        i += 1;
     }
     s
 }
@@ -101,9 +91,11 @@ pub struct Next {
 // What a read leads to: `held` bytes are at the start of the buffer, or all of it where that is fewer. The whole frames among them get their
 // lines, and what is left goes to the start.
 pub fn after_read(run: Run, buffer: &mut [u8; BUFFER], held: usize, text: &mut [u8; TEXT]) -> Next
-    ensures { record { next = result; buffer = buffer.new; text = text.new } ≡ after_read_in run buffer.old held text.old }
+    ensures next { record { next = result; buffer = buffer.new; text = text.new } ≡ after_read_in run buffer.old held text.old }
+    ensures room { result.run.end ≤ text_bytes }
+    ensures left { result.held < 17280 }
 {
-    let there = sequence::least(held, BUFFER);
+    let there = held.min(BUFFER);
     let channels = run.chain.surround.layout.count;
     let count = (there / frame_bytes::size(channels)) as u16;
     let next = frames(run, buffer, count, text);

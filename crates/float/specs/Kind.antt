@@ -1,5 +1,5 @@
 -- What an f64 is: no number, an infinity, or a sign and a whole number of units. Definitions only.
-use Rattle.std.specs.Prelude.{ℕ, ◌+◌, ◌-◌, ◌/◌, ◌%◌, ◌^◌, Bool, cond, ◌==◌, Float}
+use Rattle.std.specs.Prelude.{ℕ, ◌+◌, ◌-◌, ◌/◌, ◌%◌, ◌^◌, ◌<◌, Bool, cond, ◌==◌, Float}
 use Rattle.std.specs.Float.{nan, inf, fin}
 use Rattle.std.specs.Float.Ieee.{size}
 use Rattle.float.specs.Units.{units_of}
@@ -10,6 +10,10 @@ use Rattle.float.specs.declared.Kind.TheVariants.{NotANumber, Infinite, Finite}
 -- sig * 2 ^ exp units
 abbrev pub parts : Bool → ℕ → ℕ → Parts
 parts s q k = record { negative = s; sig = q; exp = k }
+
+-- what holds of the parts of a finite f64
+abbrev pub InRange : Parts → Type 0
+InRange p = (p.sig < 2 ^ 53) × (p.exp < 2046)
 
 -- n units: its 53 leading binary digits, and how many follow them
 unfoldable pub parts_of : Bool → ℕ → Parts

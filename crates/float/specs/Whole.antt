@@ -4,6 +4,7 @@ use Rattle.std.specs.Float.{nan, inf, fin, Format, binary64}
 use Rattle.std.specs.Float.Ieee.{up, down, round}
 use Rattle.std.specs.Float.Ieee.Exact.{HasValue}
 use Rattle.std.specs.Float.Ieee.Scale.{finite}
+use Rattle.float.specs.Arithmetic.{◌⊗◌, ◌⊘◌}
 
 -- the whole number nearest to a / c, of two the upper
 abbrev pub nearest_up : ℕ → ℕ → ℕ
@@ -14,6 +15,10 @@ unfoldable pub round_of : Format → Float → Float
 round_of f nan = nan
 round_of f (inf s) = inf s
 round_of f (fin s m e) = round f s (nearest_up (m * up e) (down e)) 1
+
+-- to a multiple of 1 / n: n is 10 for tenths
+abbrev pub round_to : Float → Float → Float
+round_to x n = round_of binary64 (x ⊗ n) ⊘ n
 
 -- ---- what that is, without the steps
 

@@ -1,15 +1,15 @@
 // Floats: what kind of f64 a value is, and the choices, the rounding and the finite tests that all other modules compute with.
 #![tactic(auto)]
 
-ghost use Rattle.std.specs.Prelude.{◌≡◌, true, T, length, replicate, if◌then◌else◌, from_bits, to_bits};
+ghost use Rattle.std.specs.Prelude.{◌≡◌, ◌&&◌, Bool, List, [], ◌∷◌, true, T, length, replicate, if◌then◌else◌, from_bits, to_bits};
 ghost use Rattle.std.specs.Float.{binary32, binary64};
 ghost use Rattle.std.specs.Float.Ieee.{lt};
 ghost use Rattle.std.specs.Float.Ieee.Scale as scale;
 ghost use Rattle.float.specs.Kind.{kind_of, field_parts};
-ghost use Rattle.float.specs.AllFinite.{all_finite};
+ghost use Rattle.float.specs.AllFinite.{all_finite, all-none, all-more};
 ghost use Rattle.float.specs.Same.{same_of, all_same};
 ghost use Rattle.float.specs.Choice.{max_of, min_of, clamp_of};
-ghost use Rattle.float.specs.Whole.{limit, round_of};
+ghost use Rattle.float.specs.Whole.{limit, round_of, round_to};
 ghost use Rattle.float.specs.Arithmetic.{zero64};
 
 // A loudness, LUFS.
@@ -23,7 +23,8 @@ pub const SILENCE_LUFS: f64 = -100.0;
 #[derive(Clone, Copy)]
 pub struct Db(pub f64);
 
-// A finite value: sig * 2^exp units of 2^-1074, with 53 digits in sig, or fewer where exp is 0.
+// A finite value: sig * 2^exp units of 2^-1074, with 53 digits in sig, or fewer where exp is 0. That is `InRange`, and no ghost field: `kind_of` gives
+// parts of values too that no format holds.
 #[derive(Clone, Copy)]
 pub struct Parts {
     pub negative: bool,
@@ -63,7 +64,7 @@ pub fn from_bits(bits: u64) -> f64
     f64::from_bits(bits)
 }
 
-// The f32 with these bits.
+// The f32 with these bits. A function of its own, as in std: the words and the two patterns differ, so a trait would hold both bodies too.
 pub fn from_bits32(bits: u32) -> f32
     ensures { result ≡ from_bits binary32 bits }
 {
@@ -83,7 +84,7 @@ pub fn to_bits(x: f64) -> u64
     f64::to_bits(x)
 }
 
-// The bits of x. Every NaN has the same.
+// The bits of x. Every NaN has the same. A function of its own, as in std: a trait would hold both bodies too.
 pub fn to_bits32(x: f32) -> u32
     ensures { result ≡ to_bits binary32 x }
 {
@@ -94,6 +95,7 @@ pub fn to_bits32(x: f32) -> u32
 }
 
 // The parts that the bits a below the sign stand for.
+#[tactic(auto, unfolding(crate::specs::Kind::field_parts))]
 fn fields(negative: bool, a: u64) -> Parts
     ensures { result ≡ field_parts negative a }
 {
@@ -128,46 +130,67 @@ pub fn classify(x: f64) -> Kind
     Kind::Finite(fields(b >= SIGN, a))
 }
 
-// Whether x is a number and no infinity.
-pub fn finite(x: f64) -> bool
-    ensures { result ≡ scale.finite x }
-{
-    x - x == 0.0
+// A float, of 64 or of 32 bits.
+pub trait Real: Copy {
+    ghost finite: { Self → Bool };
+
+    ghost all_finite: { List Self → Bool };
+
+    // Whether it is a number and no infinity.
+    fn finite(self) -> bool
+        ensures { result ≡ finite self };
+
+    ghost none: { all_finite [] ≡ true };
+
+    ghost more: { (x : Self) (xs : List Self) → all_finite (x ∷ xs) ≡ finite x && all_finite xs };
 }
 
-// Whether x is a number and no infinity.
-pub fn finite32(x: f32) -> bool
-    ensures { result ≡ scale.finite x }
-{
-    x - x == 0.0f32
-}
+impl Real for f64 {
+    ghost finite = { scale.finite };
 
-// Whether every number of v is finite.
-pub fn all_finite(v: &[f64]) -> bool
-    ensures { result ≡ all_finite v.now }
-{
-    let mut i = 0;
-    while i < v.len() {
-        if finite(v[i]) {
-            i += 1;
-        } else {
-            return false;
-        }
+    ghost all_finite = { all_finite };
+
+    #[tactic(auto, using(crate::proofs::Difference::difference))]
+    fn finite(self) -> bool {
+        self - self == 0.0
     }
-    true
+
+    ghost none = { all-none };
+
+    ghost more = { all-more };
+}
+
+impl Real for f32 {
+    ghost finite = { scale.finite };
+
+    ghost all_finite = { all_finite };
+
+    #[tactic(auto, using(crate::proofs::Difference::difference))]
+    fn finite(self) -> bool {
+        self - self == 0.0f32
+    }
+
+    ghost none = { all-none };
+
+    ghost more = { all-more };
+}
+
+// Whether x is a number and no infinity.
+pub fn finite<T: Real>(x: T) -> bool
+    ensures { result ≡ T.finite x }
+{
+    x.finite()
 }
 
 // Whether every number of v is finite. It has no early end, so that the processor tests four at once.
-pub fn all_finite32(v: &[f32]) -> bool
-    ensures { result ≡ all_finite v.now }
+pub fn all_finite<T: Real>(v: &[T]) -> bool
+    ensures { result ≡ T.all_finite v.now }
 {
-    let mut finite = true;
-    let mut i = 0;
-    while i < v.len() {
-        finite = finite & finite32(v[i]);
-        i += 1;
+    let mut all = true;
+    for x in v {
+        all = all & finite(*x);
     }
-    finite
+    all
 }
 
 // Whether a and b have the same bits; not where one is a NaN.
@@ -187,11 +210,8 @@ pub fn same(a: f64, b: f64) -> bool
 pub fn all_same(x: f64, xs: &[f64]) -> bool
     ensures { (result ≡ all_same x xs.now) × (T result → xs.now ≡ replicate (length xs.now) x) }
 {
-    let mut i = 0;
-    while i < xs.len() {
-        if same(xs[i], x) {
-            i += 1;
-        } else {
+    for y in xs {
+        if !same(*y, x) {
             return false;
         }
     }
@@ -206,6 +226,7 @@ pub fn pick(c: bool, a: f64, b: f64) -> f64
 }
 
 // The left, unless the right is strictly greater.
+#[tactic(auto, unfolding(crate::specs::Choice::max_of))]
 pub fn max(a: f64, b: f64) -> f64
     ensures { result ≡ max_of a b }
 {
@@ -213,6 +234,7 @@ pub fn max(a: f64, b: f64) -> f64
 }
 
 // The left, unless the right is strictly smaller.
+#[tactic(auto, unfolding(crate::specs::Choice::min_of))]
 pub fn min(a: f64, b: f64) -> f64
     ensures { result ≡ min_of a b }
 {
@@ -259,4 +281,11 @@ pub fn round(x: f64) -> f64
         return x;
     }
     x
+}
+
+// x to a multiple of 1 / n, half away from zero: n is 10.0 for tenths.
+pub fn round_to(x: f64, n: f64) -> f64
+    ensures { result ≡ round_to x n }
+{
+    round(x * n) / n
 }

@@ -1,13 +1,14 @@
 -- The samples of some bytes, place by place; and that only their own bytes count.
 use mathlib.Core.Path.{◌≡◌, refl, sym, ap, ◌∙◌}
-use mathlib.Core.List.{List, ◌∷◌, ◌++◌}
+use mathlib.Core.List.{List, ◌∷◌, ◌++◌, append-nil}
 use Prim.Native.Nat.{ℕ, zero, suc, ◌+◌, ◌-◌, ◌*◌, ◌≤◌, ◌<◌, min}
 use native.Mathlib.Nat.{add_assoc, add-zero, zero-add, suc-add, lt_of_not-le}
+use native.Mathlib.Numerals.{add-one}
 use native.Mathlib.Decide.{dec_le}
 use native.Mathlib.Omega.{arith}
 use lib.Ieee.{Float, nan, binary32, of_bits}
-use lib.ListN.{length, take, drop, get_or, length-drop, take-append-drop, drop_of_length-le, get_or-append}
-use lib.Seq.{paste, take_all, take_at, drop_at, drop-drop, length-take-le, get_or-drop}
+use lib.ListN.{length, take, drop, get_or, set, length-drop, take-append-drop, drop_of_length-le, get_or-append}
+use lib.Seq.{paste, take_all, take_at, drop_at, drop-drop, length-take-le, get_or-drop, paste-suc}
 use Rattle.sequence.specs.History.{laid}
 use Rattle.blocks.specs.Lists.{table}
 use Rattle.blocks.specs.Words.{word4}
@@ -42,8 +43,8 @@ unfolding samples_at
 samples-drop n b i m = table_ext (λ k. sample_at (drop n b) (i + 4 * k)) (λ k. sample_at b (n + i + 4 * k)) m (λ k g. ap (of_bits binary32) (word-drop n b (i + 4 * k) ∙ ap (word4 b) (sym (add_assoc n i (4 * k)))))
 
 -- those of a part of the bytes that has them all, and those of the bytes from some place on
-pub samples-part : (b : List ℕ) (i k m : ℕ) → i + k ≤ length b → 4 * m ≤ k → samples_at (take k (drop i b)) 0 m ≡ samples_at b i m
-samples-part b i k m h g =
+pub samples_part : (b : List ℕ) (i k m : ℕ) → i + k ≤ length b → 4 * m ≤ k → samples_at (take k (drop i b)) 0 m ≡ samples_at b i m
+samples_part b i k m h g =
     let d = drop i b in
     let there : length (take k d) ≡ k = length-take-le k d (omega (arith, length-drop i b)) in
     sym (samples_append (take k d) (drop k d) 0 m (omega arith))
@@ -61,8 +62,8 @@ drop-least b i s f = elim (dec_le i (length b)) [
       drop_of_length-le b p ∙ sym (drop_of_length-le b q)
 ]
 
-pub samples-tail : (b : List ℕ) (i s m : ℕ) → s ≡ min i (length b) → samples_at (take (length b - s) (drop s b)) 0 m ≡ samples_at b i m
-samples-tail b i s m f =
+pub samples_tail : (b : List ℕ) (i s m : ℕ) → s ≡ min i (length b) → samples_at (take (length b - s) (drop s b)) 0 m ≡ samples_at b i m
+samples_tail b i s m f =
     ap (λ (l : List ℕ). samples_at l 0 m) (take_all (length b - s) (drop s b) (omega (arith, length-drop s b)) ∙ drop-least b i s f)
     ∙ samples-drop i b 0 m
     ∙ ap (λ (j : ℕ). samples_at b j m) (add-zero i)
@@ -89,11 +90,14 @@ pub none_yet : (b : List ℕ) (i : ℕ) (before : List Float) → before ≡ lai
 unfolding samples_at table
 none_yet b i before = refl
 
-pub strand-next : (b : List ℕ) (i m : ℕ) (before x y : List Float) → m + 480 ≤ length before
-    → x ≡ laid (samples_at b i m) before → y ≡ paste x m (strand_at b (i + 4 * m)) 480 → y ≡ laid (samples_at b i (m + 480)) before
-strand-next b i m before x y h e f =
+pub strand_next : (b : List ℕ) (i c : ℕ) (before x y : List Float) → c * 480 + 480 ≤ length before
+    → x ≡ laid (samples_at b i (c * 480)) before → y ≡ paste x (c * 480) (strand_at b (i + c * 1920)) 480 → y ≡ laid (samples_at b i ((c + 1) * 480)) before
+strand_next b i c before x y h e f =
+    let m = c * 480 in
     let s = samples_at b i m in
     let t = strand_at b (i + 4 * m) in
+    let at : i + c * 1920 ≡ i + 4 * m = omega arith in
+    let next : m + 480 ≡ (c + 1) * 480 = omega arith in
     let size : length s ≡ m = samples-length b i m in
     let rest : drop (m + 480) (s ++ drop (length s) before) ≡ drop (m + 480) before =
     sym (drop-drop 480 m (s ++ drop (length s) before))
@@ -101,9 +105,26 @@ strand-next b i m before x y h e f =
     ∙ drop-drop 480 (length s) before
     ∙ ap (λ (k : ℕ). drop (k + 480) before) size in
     f
+    ∙ ap (λ (k : ℕ). paste x m (strand_at b k) 480) at
     ∙ ap (λ (z : List Float). paste z m t 480) e
     ∙ (λ j. take_at s (drop (length s) before) m size j ++ take_all 480 t (omega (arith, samples-length b (i + 4 * m) 480)) j ++ rest j)
     ∙ (λ j. sym (samples-add b i m 480) j ++ drop (sym (samples-length b i (m + 480)) j) before)
+    ∙ ap (λ (k : ℕ). laid (samples_at b i k) before) next
+
+-- a sample more of a strand
+pub sample_put : (b : List ℕ) (x y : List Float) (to k : ℕ) (v : Float) → to + 480 ≤ length x → k < 480
+    → y ≡ paste x to (strand_at b 0) k → v ≡ sample_at b (4 * k) → set y (to + k) v ≡ paste x to (strand_at b 0) (k + 1)
+sample_put b x y to k v h g e f =
+    let next : v ≡ get_or (strand_at b 0) k nan = f ∙ ap (sample_at b) (sym (zero-add (4 * k))) ∙ sym (sample-at b 0 480 k g) in
+    (λ j. set (e j) (to + k) (next j))
+    ∙ paste-suc x to (strand_at b 0) k nan (omega arith) (omega (arith, samples-length b 0 480))
+    ∙ ap (paste x to (strand_at b 0)) (sym (add-one k))
+
+-- a strand in an array of its own
+pub strand_alone : (b : List ℕ) (i : ℕ) (x : List Float) → length x ≡ 480 → paste x 0 (strand_at b i) 480 ≡ strand_at b i
+strand_alone b i x h =
+    let full : length x ≤ 0 + 480 = omega arith in
+    (λ j. take_all 480 (strand_at b i) (omega (arith, samples-length b i 480)) j ++ drop_of_length-le x full j) ∙ append-nil (strand_at b i)
 
 pub bed-first : (m : ℕ) (b : List ℕ) (k : ℕ) (before x : List Float) → x ≡ laid (bed_at m b k) before → take (bed_samples m) x ≡ bed_at m b k
 bed-first m b k before x e =

@@ -6,22 +6,22 @@ use mathlib.Core.Path.{◌≡◌}
 use Rattle.frame_bytes.specs.Bytes.{bed_samples, frame_bytes}
 
 module _ (n : ℕ) where
-  pub bed-most : bed_samples n ≤ 3840
+  pub bed_most : bed_samples n ≤ 3840
   unfolding bed_samples
-  bed-most = omega arith
+  bed_most = omega arith
 
-  pub frame-least : 3840 ≤ frame_bytes n
+  pub frame_least : 3840 ≤ frame_bytes n
   unfolding frame_bytes
-  frame-least = omega arith
+  frame_least = omega arith
 
-  pub frame-most : frame_bytes n ≤ 17280
+  pub frame_most : frame_bytes n ≤ 17280
   unfolding frame_bytes
-  frame-most = omega arith
+  frame_most = omega arith
 
   pub frame-samples : frame_bytes n ≡ 1920 + 4 * bed_samples n
   unfolding frame_bytes bed_samples
   frame-samples = omega arith
 
   -- the first byte of a frame whose number is a u16
-  pub place-most : (i f : ℕ) → f ≡ frame_bytes n → i < 65536 → i * f < 2 ^ 31
-  place-most i f e h = let g : f ≤ 17280 = omega (arith, frame-most) in omega (arith, mul-le-mul_left i g)
+  pub place_most : (i f : ℕ) → f ≡ frame_bytes n → i < 65536 → i * f < 2 ^ 31
+  place_most i f e h = let g : f ≤ 17280 = omega (arith, frame_most) in omega (arith, mul-le-mul_left i g)

@@ -23,6 +23,7 @@ pub const BED: usize = 3840;
 pub const BUFFER: usize = 61440;
 
 // The samples that a frame has of a bed of so many channels.
+#[tactic(auto, unfolding(crate::specs::Bytes::bed_samples))]
 pub fn bed_samples(count: u64) -> usize
     ensures { result ≡ bed_samples count }
 {
@@ -30,6 +31,7 @@ pub fn bed_samples(count: u64) -> usize
 }
 
 // The bytes of a frame whose bed has so many channels.
+#[tactic(auto, unfolding(crate::specs::Bytes::frame_bytes))]
 pub fn size(count: u64) -> usize
     ensures { result ≡ frame_bytes count }
 {
@@ -43,93 +45,74 @@ fn sample(bytes: &[u8], at: usize) -> f32
     float::from_bits32(read4(bytes, at))
 }
 
-// Puts the strand at the start of some bytes into the places of x from `to` on, which the caller shows to be there.
+// Puts the strand at the start of some bytes into the places of x from `to` on, which the caller shows to be there: here and below by a clause on the
+// length, since an array of its own for each strand would be one copy more.
+#[tactic(auto, using(crate::proofs::Samples::sample_put))]
 fn put(bytes: &[u8], to: usize, x: &mut [f32])
     requires { to + 480 ≤ length x.old }
     ensures { x.new ≡ paste x.old to (strand_at bytes.now 0) 480 }
 {
-    let mut k: usize = 0;
-    while k < SAMPLES {
+    for k in 0..SAMPLES {
         x[to + k] = sample(bytes, 4 * k);
-        k += 1;
     }
 }
 
 // The same for the strand whose first byte is at `first`. Of a part that is as long as a strand the compiler knows that no byte is missing.
+#[tactic(auto, using(crate::proofs::Samples::samples_part, crate::proofs::Samples::samples_tail))]
 fn strand(buffer: &[u8; BUFFER], first: usize, to: usize, x: &mut [f32])
     requires { to + 480 ≤ length x.old }
     ensures { x.new ≡ paste x.old to (strand_at buffer.now first) 480 }
 {
-    let bytes: &[u8] = buffer;
     if first <= BUFFER - STRAND {
-        let end = first + STRAND;
-        put(&bytes[first..end], to, x);
-        return;
+        put(&buffer[first..first + STRAND], to, x);
+    } else {
+        put(&buffer[first.min(BUFFER)..], to, x);
     }
-    let start = sequence::least(first, BUFFER);
-    put(&bytes[start..], to, x);
 }
 
 // n strands from byte `first` on, in the first places of x; the others stay.
+#[tactic(auto, using(crate::proofs::Samples::none_yet, crate::proofs::Samples::strand_next))]
 fn strands(buffer: &[u8; BUFFER], first: usize, n: usize, x: &mut [f32])
     requires { (first < 2 ^ 32) × (n ≤ 8) × (n * 480 ≤ length x.old) }
     ensures { x.new ≡ laid (samples_at buffer.now first (n * 480)) x.old }
 {
-    let mut c: usize = 0;
-    while c < n {
+    for c in 0..n {
         strand(buffer, first + c * STRAND, c * SAMPLES, x);
-        c += 1;
     }
 }
 
-fn no_samples() -> [f32; SAMPLES]
-    ensures { length result ≡ 480 }
-{
-    [0.0; SAMPLES]
-}
-
 // The key of frame i, counted from 0; the bed has `count` channels.
+#[tactic(auto, using(crate::proofs::Sizes::place_most))]
 pub fn key(buffer: &[u8; BUFFER], count: u64, i: u16) -> [f32; SAMPLES]
     ensures { result ≡ key_at count buffer.now i }
 {
-    let mut x = no_samples();
-    strand(buffer, i as usize * size(count), 0, &mut x);
+    let mut x = [0.0; SAMPLES];
+    strand(buffer, usize::from(i) * size(count), 0, &mut x);
     x
 }
 
 // The bed of frame i, likewise, in the first places of x; the others stay as they are.
+#[tactic(auto, using(crate::proofs::Sizes::place_most), unfolding(crate::specs::Bytes::bed_samples))]
 pub fn bed(buffer: &[u8; BUFFER], count: u64, i: u16, x: &mut [f32; BED])
     ensures { x.new ≡ laid (bed_at count buffer.now i) x.old }
 {
     strands(
         buffer,
-        i as usize * size(count) + STRAND,
+        usize::from(i) * size(count) + STRAND,
         channel_count(count),
         x,
     );
 }
 
-// How many of n bytes are behind the first ones.
-fn behind(n: usize, first: usize) -> usize
-    ensures { result ≡ n - first }
-{
-    if n < first {
-        return 0;
-    }
-    n - first
-}
-
 // Of `held` bytes those behind the first i frames are left: moves to the start what the buffer has of them, and answers how many they are.
+#[tactic(auto, using(crate::proofs::Sizes::place_most, crate::proofs::Kept::kept_bytes, crate::proofs::Kept::kept_none), unfolding(crate::specs::Bytes::kept_of))]
 pub fn keep(buffer: &mut [u8], count: u64, i: u16, held: usize) -> usize
     ensures { record { bytes = buffer.new; held = result } ≡ kept_of count buffer.old i held }
 {
-    let first = i as usize * size(count);
-    let left = behind(held, first);
-    let moved = sequence::least(left, behind(buffer.len(), first));
-    let mut k: usize = 0;
-    while k < moved {
-        buffer[k] = buffer[first + k];
-        k += 1;
+    let first = usize::from(i) * size(count);
+    let there = held.min(buffer.len());
+    if first < there {
+        buffer.copy_within(first..there, 0);
     }
-    left
+    held.saturating_sub(first)
 }

@@ -1,4 +1,6 @@
 -- What each call does, and that it is what the port does.
+use Rattle.refusal.specs.declared.Refusal.{Refusal}
+use Rattle.std.specs.Prelude.{Result}
 use mathlib.Core.Path.{◌≡◌, refl, ap}
 use mathlib.Core.List.{List}
 use Prim.Native.Nat.{ℕ}
@@ -9,7 +11,6 @@ use Rattle.chain.specs.declared.Changed.{Changed}
 use Rattle.chain.specs.declared.Framed.{Framed}
 use Rattle.settings.specs.declared.Settings.{Settings}
 use Rattle.layout.specs.declared.Layout.{Layout}
-use Rattle.chain.specs.declared.Verdict.{Verdict}
 use Rattle.chain.specs.Chain.{frame_of, set_of, reset_of, layout_of}
 use Rattle.rules.specs.Rules.{HeldStrand, HeldDuck, Asked, frame, settings, reset, layout, Answered, after_frame, after_change}
 use Rattle.image.specs.Image.{save_verdict, saved_in, restore_of}
@@ -33,7 +34,7 @@ module _ (c : Chain) where
   pub on-layout : (l : Layout) (r : Changed) → r ≡ layout_of c l → (r ≡ layout_of c l) × (after_change r ≡ port c (event (layout l)))
   on-layout l r e = (e, ap {B = Does} after_change e)
 
-  pub on-save : (b b' : List ℕ) (r : Verdict) → r ≡ save_verdict b → b' ≡ saved_in c b
+  pub on-save : (b b' : List ℕ) (r : Result Unit Refusal) → r ≡ save_verdict b → b' ≡ saved_in c b
       → (r ≡ save_verdict b) × (b' ≡ saved_in c b) × (after_save c r b' ≡ port c (save b))
   on-save b b' r e f = (e, f, λ i. after_save c (e i) (f i))
 

@@ -10,8 +10,9 @@ ghost use Rattle.image.specs.Image.{save_verdict, saved_in, restore_of};
 ghost use Rattle.image.specs.Port.{port};
 ghost use Rattle.freightpetal.specs.Steps.{after_save, after_restore};
 
-use chain::{Chain, Changed, Framed, Verdict};
+use chain::{Chain, Changed, Framed};
 use layout::Layout;
+use refusal::Refusal;
 use settings::Settings;
 
 // A fresh chain.
@@ -50,7 +51,7 @@ pub fn layout(c: Chain, l: Layout) -> Changed
 }
 
 // The chain's image, into 11,264 lent bytes. Refusal 6.
-pub fn save(c: Chain, lent: &mut [u8]) -> Verdict
+pub fn save(c: Chain, lent: &mut [u8]) -> Result<(), Refusal>
     ensures { (result ≡ save_verdict lent.old) × (lent.new ≡ saved_in c lent.old) × (after_save c result lent.new ≡ port c (save lent.old)) }
 {
     image::save(c, lent)

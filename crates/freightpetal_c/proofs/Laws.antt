@@ -1,4 +1,7 @@
 -- Calls on a lent image do what the port does, over every list: a restore of a chain's image gives the chain back.
+use Rattle.chain.specs.declared.Answer.{Answer}
+use Rattle.refusal.specs.declared.Refusal.{Refusal}
+use Rattle.std.specs.Prelude.{Result, Ok, Err}
 use mathlib.Core.Path.{◌≡◌, refl, sym, ap, ◌∙◌}
 use mathlib.Core.Bool.{Bool, true, false, cond}
 use mathlib.Core.List.{List, []}
@@ -16,10 +19,6 @@ use Rattle.demands.proofs.Demands.{from-valid}
 use Rattle.chain.specs.declared.Chain.{Chain}
 use Rattle.chain.specs.declared.Changed.{Changed}
 use Rattle.chain.specs.declared.Framed.{Framed}
-use Rattle.chain.specs.declared.Outcome.{Outcome}
-use Rattle.chain.specs.declared.Outcome.TheVariants as outcome
-use Rattle.chain.specs.declared.Verdict.{Verdict}
-use Rattle.chain.specs.declared.Verdict.TheVariants as verdict
 use Rattle.chain.specs.Chain.{fresh_of, frame_of, changed, unchanged, set_of, reset_of, layout_of}
 use Rattle.rules.specs.Rules.{Event, frame, settings, reset, layout, Answered, rules, refuses, reply_of, noted_of}
 use Rattle.rules.specs.Rules as events
@@ -39,7 +38,7 @@ save-right : (c : Chain) (b : List ℕ) → length b ≡ image_bytes → saved_i
 unfolding saved_in
 save-right c b e = rw (eq-eqb (length b) image_bytes e)
 
-passed-right : (b : List ℕ) → length b ≡ image_bytes → save_verdict b ≡ verdict.Passed
+passed-right : (b : List ℕ) → length b ≡ image_bytes → save_verdict b ≡ Ok tt
 unfolding save_verdict
 passed-right b e = rw (eq-eqb (length b) image_bytes e)
 
@@ -77,17 +76,17 @@ module _ (c : Chain) (v : Valid c) where
       → ((framed_in (image c) a f).code ≡ number_in (reply_of f.outcome)) × ((framed_in (image c) a f).bytes ≡ image f.chain)
   frame-left a f k = go f.outcome refl
     where
-      go : (o : Outcome) → f.outcome ≡ o → ((heard_in (image c) a f.chain o).code ≡ number_in (reply_of o)) × ((heard_in (image c) a f.chain o).bytes ≡ image f.chain)
-      go (outcome.Passed x) e = (refl, over-image f.chain c v)
-      go (outcome.Refused r) e = (refl, ap image (sym (k (number_of r) (ap reply_of e))))
+      go : (o : Result Answer Refusal) → f.outcome ≡ o → ((heard_in (image c) a f.chain o).code ≡ number_in (reply_of o)) × ((heard_in (image c) a f.chain o).bytes ≡ image f.chain)
+      go (Ok x) e = (refl, over-image f.chain c v)
+      go (Err r) e = (refl, ap image (sym (k (number_of r) (ap reply_of e))))
 
   change_left : (r : Changed) → ((n : ℕ) → noted_of r.verdict ≡ refusal n → r.chain ≡ c)
       → ((changed_in (image c) r).code ≡ number_in (noted_of r.verdict)) × ((changed_in (image c) r).bytes ≡ image r.chain)
   change_left r k = go r.verdict refl
     where
-      go : (o : Verdict) → r.verdict ≡ o → ((saved_as (image c) r.chain o).code ≡ number_in (noted_of o)) × ((saved_as (image c) r.chain o).bytes ≡ image r.chain)
-      go verdict.Passed e = (refl, over-image r.chain c v)
-      go (verdict.Refused n) e = (refl, ap image (sym (k (number_of n) (ap noted_of e))))
+      go : (o : Result Unit Refusal) → r.verdict ≡ o → ((saved_as (image c) r.chain o).code ≡ number_in (noted_of o)) × ((saved_as (image c) r.chain o).bytes ≡ image r.chain)
+      go (Ok _) e = (refl, over-image r.chain c v)
+      go (Err n) e = (refl, ap image (sym (k (number_of n) (ap noted_of e))))
 
   change_on : (f : Chain → Changed) → change_in (image c) f ≡ changed_in (image c) (f c)
   unfolding change_in
@@ -102,9 +101,9 @@ module _ (c : Chain) (v : Valid c) where
   frame-words : (a : List ℕ) (f : Framed) → (framed_in (image c) a f).words ≡ words_after a (reply_of f.outcome)
   frame-words a f = go f.outcome
     where
-      go : (o : Outcome) → (heard_in (image c) a f.chain o).words ≡ words_after a (reply_of o)
-      go (outcome.Passed x) = refl
-      go (outcome.Refused r) = refl
+      go : (o : Result Answer Refusal) → (heard_in (image c) a f.chain o).words ≡ words_after a (reply_of o)
+      go (Ok x) = refl
+      go (Err r) = refl
 
   frame-done : (a : List ℕ) (key bed : List Float) → frame_in (image c) a key bed ≡ frame_done a (events.port c (frame key bed))
   frame-done a key bed =
@@ -141,17 +140,17 @@ module _ (b : List ℕ) (n : code_in b ≡ 0 → ⊥) where
   unfolding frame_in
   closed-frame a key bed = go (open_of b).verdict n
     where
-      go : (v : Verdict) → (code_of v ≡ 0 → ⊥) → opened_frame b a key bed (open_of b).chain v ≡ record { code = code_of v; bytes = b; words = a }
-      go verdict.Passed k = absurd (k refl)
-      go (verdict.Refused r) k = refl
+      go : (v : Result Unit Refusal) → (code_of v ≡ 0 → ⊥) → opened_frame b a key bed (open_of b).chain v ≡ record { code = code_of v; bytes = b; words = a }
+      go (Ok _) k = absurd (k refl)
+      go (Err r) k = refl
 
   closed_change : (f : Chain → Changed) → change_in b f ≡ record { code = code_in b; bytes = b }
   unfolding change_in
   closed_change f = go (open_of b).verdict n
     where
-      go : (v : Verdict) → (code_of v ≡ 0 → ⊥) → opened_by b f (open_of b).chain v ≡ record { code = code_of v; bytes = b }
-      go verdict.Passed k = absurd (k refl)
-      go (verdict.Refused r) k = refl
+      go : (v : Result Unit Refusal) → (code_of v ≡ 0 → ⊥) → opened_by b f (open_of b).chain v ≡ record { code = code_of v; bytes = b }
+      go (Ok _) k = absurd (k refl)
+      go (Err r) k = refl
 
   closed : (e : Event) → left_by b e ≡ record { code = code_in b; bytes = b }
   closed (frame key bed) = ap (λ (t : Told). record { code = t.code; bytes = t.bytes }) (closed-frame [] key bed)
@@ -167,7 +166,7 @@ module _ (c : Chain) (v : Valid c) where
   save-done l = rw (image-length c v) (go (eqb (length l) image_bytes))
     where
       go : (t : Bool) → record { code = cond t 0 6; beside = cond t (image c) l; bytes = image c }
-          ≡ done_in (gets (images.reply_of (cond t verdict.Passed (verdict.Refused WrongLength))) (cond t (image c) l) c)
+          ≡ done_in (gets (images.reply_of (cond t (Ok tt) (Err WrongLength))) (cond t (image c) l) c)
       go true = refl
       go false = refl
 

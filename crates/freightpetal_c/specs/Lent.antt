@@ -1,25 +1,23 @@
 -- Calls on a lent image: the chain is restored from it, the call runs, and the chain is saved back. Definitions only.
-use Rattle.std.specs.Prelude.{cond, List, ℕ, eqb, length, Float}
+use Rattle.chain.specs.declared.Answer.{Answer}
+use Rattle.refusal.specs.declared.Refusal.{Refusal}
+use Rattle.std.specs.Prelude.{cond, List, ℕ, eqb, length, Float, Result, Ok, Err}
 use Rattle.refusal.specs.declared.Refusal.TheVariants.{WrongLength}
 use Rattle.refusal.specs.Table.{number_of}
 use Rattle.layout.specs.declared.Layout.{Layout}
 use Rattle.chain.specs.declared.Chain.{Chain}
 use Rattle.chain.specs.declared.Changed.{Changed}
 use Rattle.chain.specs.declared.Framed.{Framed}
-use Rattle.chain.specs.declared.Outcome.{Outcome}
-use Rattle.chain.specs.declared.Outcome.TheVariants as outcome
 use Rattle.settings.specs.declared.Settings.{Settings}
-use Rattle.chain.specs.declared.Verdict.{Verdict}
-use Rattle.chain.specs.declared.Verdict.TheVariants as verdict
 use Rattle.chain.specs.Chain.{fresh_of, frame_of, unchanged, set_of, reset_of, layout_of}
 use Rattle.image.specs.Layout.{image_bytes}
 use Rattle.image.specs.Image.{save_verdict, saved_in, restore_of}
 use Rattle.words.specs.Words.{answer_words}
 
 -- the specification's number; 0: passed
-abbrev pub code_of : Verdict → ℕ
-code_of verdict.Passed = 0
-code_of (verdict.Refused r) = number_of r
+abbrev pub code_of : Result Unit Refusal → ℕ
+code_of (Ok _) = 0
+code_of (Err r) = number_of r
 
 -- a number and the lent bytes after a call
 pub record Left : Type 0 where
@@ -40,39 +38,47 @@ fresh_in b = record { code = code_of (save_verdict b); bytes = saved_in fresh_of
 unfoldable pub open_of : List ℕ → Changed
 open_of b = cond (eqb (length b) image_bytes) (restore_of fresh_of b) (unchanged fresh_of WrongLength)
 
+-- the chain c where the call passed that made it
+abbrev pub chain_by : Chain → Result Unit Refusal → Result Chain Refusal
+chain_by c (Ok _) = Ok c
+chain_by c (Err r) = Err r
+
+abbrev pub opened_of : List ℕ → Result Chain Refusal
+opened_of b = chain_by (open_of b).chain (open_of b).verdict
+
 abbrev pub code_in : List ℕ → ℕ
 code_in b = code_of (open_of b).verdict
 
 -- ---- a frame
 
 -- what it leaves of the bytes b and the words a, on a chain
-abbrev pub heard_in : List ℕ → List ℕ → Chain → Outcome → Answered
-heard_in b a c (outcome.Passed x) = record { code = 0; bytes = saved_in c b; words = answer_words x }
-heard_in b a c (outcome.Refused r) = record { code = number_of r; bytes = b; words = a }
+abbrev pub heard_in : List ℕ → List ℕ → Chain → Result Answer Refusal → Answered
+heard_in b a c (Ok x) = record { code = 0; bytes = saved_in c b; words = answer_words x }
+heard_in b a c (Err r) = record { code = number_of r; bytes = b; words = a }
 
 abbrev pub framed_in : List ℕ → List ℕ → Framed → Answered
 framed_in b a f = heard_in b a f.chain f.outcome
 
 -- where the bytes are an image; else 6, 7 or 8
-abbrev pub opened_frame : List ℕ → List ℕ → List Float → List Float → Chain → Verdict → Answered
-opened_frame b a key bed c verdict.Passed = framed_in b a (frame_of c key bed)
-opened_frame b a key bed c (verdict.Refused r) = record { code = number_of r; bytes = b; words = a }
+abbrev pub opened_frame : List ℕ → List ℕ → List Float → List Float → Chain → Result Unit Refusal → Answered
+opened_frame b a key bed c (Ok _) = framed_in b a (frame_of c key bed)
+opened_frame b a key bed c (Err r) = record { code = number_of r; bytes = b; words = a }
 
 unfoldable pub frame_in : List ℕ → List ℕ → List Float → List Float → Answered
 frame_in b a key bed = opened_frame b a key bed (open_of b).chain (open_of b).verdict
 
 -- ---- a settings call, a reset and a layout call: what f makes of the chain
 
-abbrev pub saved_as : List ℕ → Chain → Verdict → Left
-saved_as b c verdict.Passed = record { code = 0; bytes = saved_in c b }
-saved_as b c (verdict.Refused r) = record { code = number_of r; bytes = b }
+abbrev pub saved_as : List ℕ → Chain → Result Unit Refusal → Left
+saved_as b c (Ok _) = record { code = 0; bytes = saved_in c b }
+saved_as b c (Err r) = record { code = number_of r; bytes = b }
 
 abbrev pub changed_in : List ℕ → Changed → Left
 changed_in b r = saved_as b r.chain r.verdict
 
-abbrev pub opened_by : List ℕ → (Chain → Changed) → Chain → Verdict → Left
-opened_by b f c verdict.Passed = changed_in b (f c)
-opened_by b f c (verdict.Refused r) = record { code = number_of r; bytes = b }
+abbrev pub opened_by : List ℕ → (Chain → Changed) → Chain → Result Unit Refusal → Left
+opened_by b f c (Ok _) = changed_in b (f c)
+opened_by b f c (Err r) = record { code = number_of r; bytes = b }
 
 unfoldable pub change_in : List ℕ → (Chain → Changed) → Left
 change_in b f = opened_by b f (open_of b).chain (open_of b).verdict

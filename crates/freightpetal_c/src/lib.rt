@@ -7,10 +7,9 @@ ghost use Rattle.std.specs.Prelude.{◌≡◌};
 ghost use Rattle.words.specs.Words.{settings_from, layout_from};
 ghost use Rattle.freightpetal_c.specs.Lent.{
   code_of,
-  open_of,
+  opened_of,
   fresh_in,
   code_in,
-  framed_in,
   frame_in,
   changed_in,
   set_in,
@@ -19,15 +18,18 @@ ghost use Rattle.freightpetal_c.specs.Lent.{
   restore_in,
 };
 
-use chain::{Changed, Framed, Outcome, Verdict};
+use chain::{Chain, Changed};
+use layout::Layout;
 use refusal::Refusal;
+use settings::Settings;
 
-fn code(v: Verdict) -> u64
+// The specification's number of a refusal, and 0 where a call passed.
+fn code(v: Result<(), Refusal>) -> u64
     ensures { result ≡ code_of v }
 {
     match v {
-        Verdict::Passed => 0,
-        Verdict::Refused(refusal) => refusal::number(refusal),
+        Ok(()) => 0,
+        Err(refusal) => refusal::number(refusal),
     }
 }
 
@@ -39,41 +41,48 @@ pub fn freightpetal_fresh(image: &mut [u8]) -> u64
 }
 
 // The chain whose image is lent. Refusal 6 where the bytes aren't as long as a saved image, then 7, 8.
-fn open(image: &[u8]) -> Changed
-    ensures { result ≡ open_of image.now }
+#[tactic(auto, unfolding(crate::specs::Lent::open_of))]
+fn open(image: &[u8]) -> Result<Chain, Refusal>
+    ensures { result ≡ opened_of image.now }
 {
-    if image.len() == image::BYTES {
-        return freightpetal::restore(freightpetal::new(), image);
+    if image.len() != image::BYTES {
+        return Err(Refusal::WrongLength);
     }
-    Changed {
-        chain: freightpetal::new(),
-        verdict: Verdict::Refused(Refusal::WrongLength),
-    }
+    let c = freightpetal::restore(freightpetal::new(), image);
+    c.verdict?;
+    Ok(c.chain)
+}
+
+// Saves what a settings call, a reset, a layout call or a restore made of a chain. Here and in `frame` the bytes have an image's length, so that the save
+// passes.
+fn keep(image: &mut [u8], c: Changed) -> Result<(), Refusal>
+    ensures { record { code = code_of result; bytes = image.new } ≡ changed_in image.old c }
+{
+    c.verdict?;
+    let _ = freightpetal::save(c.chain, image);
+    Ok(())
 }
 
 // Whether the bytes are an image. Refusals 6, 7, 8.
 pub fn freightpetal_check(image: &[u8]) -> u64
     ensures { result ≡ code_in image.now }
 {
-    let c = open(image);
-    let verdict = c.verdict;
-    code(verdict)
+    match open(image) {
+        Ok(_) => 0,
+        Err(refusal) => refusal::number(refusal),
+    }
 }
 
-// What a frame leaves of the lent bytes and words.
-fn framed(image: &mut [u8], f: Framed, answer: &mut [u64; 41]) -> u64
-    ensures { record { code = result; bytes = image.new; words = answer.new } ≡ framed_in image.old answer.old f }
+fn frame(image: &mut [u8], key: &[f32], bed: &[f32], answer: &mut [u64; 41]) -> Result<(), Refusal>
+    ensures { record { code = code_of result; bytes = image.new; words = answer.new }
+        ≡ frame_in image.old answer.old key.now bed.now }
 {
-    let next = f.chain;
-    let outcome = f.outcome;
-    match outcome {
-        Outcome::Passed(a) => {
-            freightpetal::save(next, image);
-            *answer = words::answer(a);
-            0
-        }
-        Outcome::Refused(refusal) => refusal::number(refusal),
-    }
+    let chain = open(image)?;
+    let f = freightpetal::frame(chain, key, bed);
+    let a = f.outcome?;
+    let _ = freightpetal::save(f.chain, image);
+    *answer = words::answer(a);
+    Ok(())
 }
 
 // One frame, 480 samples of the key and of each of the bed's channels, one channel after the other; its answer as 41 words. Refusals 6, 7, 8, 1, 2, 4, 5.
@@ -81,78 +90,64 @@ pub fn freightpetal_frame(image: &mut [u8], key: &[f32], bed: &[f32], answer: &m
     ensures { record { code = result; bytes = image.new; words = answer.new }
         ≡ frame_in image.old answer.old key.now bed.now }
 {
-    let c = open(image);
-    let verdict = c.verdict;
-    let chain = c.chain;
-    match verdict {
-        Verdict::Passed => framed(image, freightpetal::frame(chain, key, bed), answer),
-        Verdict::Refused(refusal) => refusal::number(refusal),
-    }
+    code(frame(image, key, bed, answer))
 }
 
-// What a settings call, a reset, a layout call or a restore leaves of the lent bytes.
-fn changed(image: &mut [u8], c: Changed) -> u64
-    ensures { record { code = result; bytes = image.new } ≡ changed_in image.old c }
+fn set(image: &mut [u8], s: Settings) -> Result<(), Refusal>
+    ensures { record { code = code_of result; bytes = image.new } ≡ set_in image.old s }
 {
-    let next = c.chain;
-    let verdict = c.verdict;
-    match verdict {
-        Verdict::Passed => {
-            freightpetal::save(next, image);
-            0
-        }
-        Verdict::Refused(refusal) => refusal::number(refusal),
-    }
+    let chain = open(image)?;
+    keep(image, freightpetal::set(chain, s))
 }
 
 // All settings, 12 words in the image's order; the flags, words 7 and 12, are 0 or not. Refusals 6, 7, 8, 3.
 pub fn freightpetal_settings(image: &mut [u8], settings: &[u64; 12]) -> u64
     ensures { record { code = result; bytes = image.new } ≡ set_in image.old (settings_from settings.now) }
 {
-    let c = open(image);
-    let verdict = c.verdict;
-    let chain = c.chain;
-    match verdict {
-        Verdict::Passed => changed(image, freightpetal::set(chain, words::settings(settings))),
-        Verdict::Refused(refusal) => refusal::number(refusal),
-    }
+    code(set(image, words::settings(settings)))
+}
+
+fn reset(image: &mut [u8], strand: u64) -> Result<(), Refusal>
+    ensures { record { code = code_of result; bytes = image.new } ≡ reset_in image.old strand }
+{
+    let chain = open(image)?;
+    keep(image, freightpetal::reset(chain, strand))
 }
 
 // The key strand (0) or the bed strand (1) begins anew; the bed keeps its layout. Refusals 6, 7, 8, 9.
 pub fn freightpetal_reset(image: &mut [u8], strand: u64) -> u64
     ensures { record { code = result; bytes = image.new } ≡ reset_in image.old strand }
 {
-    let c = open(image);
-    let verdict = c.verdict;
-    let chain = c.chain;
-    match verdict {
-        Verdict::Passed => changed(image, freightpetal::reset(chain, strand)),
-        Verdict::Refused(refusal) => refusal::number(refusal),
-    }
+    code(reset(image, strand))
+}
+
+fn lay_out(image: &mut [u8], l: Layout) -> Result<(), Refusal>
+    ensures { record { code = code_of result; bytes = image.new } ≡ layout_in image.old l }
+{
+    let chain = open(image)?;
+    keep(image, freightpetal::layout(chain, l))
 }
 
 // The bed's layout: the number of its channels, and eight times azimuth, elevation and LFE flag, of which those in use are read. Refusals 6, 7, 8, 10.
 pub fn freightpetal_layout(image: &mut [u8], count: u64, places: &[u64; 24]) -> u64
     ensures { record { code = result; bytes = image.new } ≡ layout_in image.old (layout_from count places.now) }
 {
-    let c = open(image);
-    let verdict = c.verdict;
-    let chain = c.chain;
-    match verdict {
-        Verdict::Passed => changed(
-            image,
-            freightpetal::layout(chain, words::layout(count, places)),
-        ),
-        Verdict::Refused(refusal) => refusal::number(refusal),
+    code(lay_out(image, words::layout(count, places)))
+}
+
+#[tactic(auto, unfolding(crate::specs::Lent::restore_in))]
+fn restore(image: &mut [u8], bytes: &[u8]) -> Result<(), Refusal>
+    ensures { record { code = code_of result; bytes = image.new } ≡ restore_in image.old bytes.now }
+{
+    if image.len() != image::BYTES {
+        return Err(Refusal::WrongLength);
     }
+    keep(image, freightpetal::restore(freightpetal::new(), bytes))
 }
 
 // The chain that `bytes` mean, an image of either edition, into the lent image, whatever that holds. Refusals 6, for the length of either, 7, 8.
 pub fn freightpetal_restore(image: &mut [u8], bytes: &[u8]) -> u64
     ensures { record { code = result; bytes = image.new } ≡ restore_in image.old bytes.now }
 {
-    if image.len() == image::BYTES {
-        return changed(image, freightpetal::restore(freightpetal::new(), bytes));
-    }
-    refusal::number(Refusal::WrongLength)
+    code(restore(image, bytes))
 }

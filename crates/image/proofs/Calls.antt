@@ -1,4 +1,6 @@
 -- What a save and a restore leave, from what their steps do.
+use Rattle.refusal.specs.declared.Refusal.{Refusal}
+use Rattle.std.specs.Prelude.{Result, Ok, Err}
 use mathlib.Core.Path.{◌≡◌, refl, sym, ap, ◌∙◌}
 use mathlib.Core.Bool.{Bool, true, false, not, cond, ◌&&◌, true≢false}
 use mathlib.Core.Logic.{◌⊎◌, inl, inr}
@@ -9,16 +11,16 @@ use borrow.Author.Tests.{eq-eqb, ne_eqb, eqb-true, not-true}
 use lib.Dec.{eqb}
 use lib.ListN.{length}
 use Rattle.sequence.proofs.Tests.{both}
-use Rattle.blocks.specs.Lists.{Bytes, laid, same}
+use Rattle.std.specs.Prelude.{bytes_eq}
+use Rattle.std.proofs.lemmas.Slice.Eq.{bytes_eq-Decides}
+use Rattle.blocks.specs.Lists.{Bytes, laid}
 use Rattle.blocks.specs.Words.{block_bytes, blocks_in, first_bad}
 use Rattle.blocks.specs.Image.{image_of, payload_of}
-use Rattle.blocks.proofs.Lists.{laid-all, same-eq}
+use Rattle.blocks.proofs.Lists.{laid-all}
 use Rattle.blocks.proofs.Images.{image-laid}
 use Rattle.refusal.specs.declared.Refusal.TheVariants.{WrongLength, BadCheck, ForeignImage}
 use Rattle.chain.specs.declared.Chain.{Chain}
 use Rattle.chain.specs.declared.Changed.{Changed}
-use Rattle.chain.specs.declared.Verdict.{Verdict}
-use Rattle.chain.specs.declared.Verdict.TheVariants.{Passed, Refused}
 use Rattle.chain.specs.Chain.{changed, unchanged}
 use Rattle.chain.specs.Base.{widened, base_of}
 use Rattle.codec.specs.Run.{Run}
@@ -33,12 +35,12 @@ use Rattle.image.proofs.Laws.{first-laws, second-laws, not_old, meaning_old, mea
 
 -- ---- a save
 
-pub save-wrong : (c : Chain) (b : List ℕ) → (length b ≡ image_bytes → ⊥) → (◌≡◌ {A = Verdict} (Refused WrongLength) (save_verdict b)) × (b ≡ saved_in c b)
+pub save-wrong : (c : Chain) (b : List ℕ) → (length b ≡ image_bytes → ⊥) → (◌≡◌ {A = Result Unit Refusal} (Err WrongLength) (save_verdict b)) × (b ≡ saved_in c b)
 unfolding save_verdict saved_in
 save-wrong c b h = (rw (ne_eqb (length b) image_bytes h), rw (ne_eqb (length b) image_bytes h))
 
 pub save-right : (c : Chain) (b b' w w' : List ℕ) → length b ≡ image_bytes → length w ≡ payload_words → Run w 0 payload_words (chain.enc c) w'
-    → b' ≡ laid b 0 (image_of (blocks_in b) w') → (◌≡◌ {A = Verdict} Passed (save_verdict b)) × (b' ≡ saved_in c b)
+    → b' ≡ laid b 0 (image_of (blocks_in b) w') → (◌≡◌ {A = Result Unit Refusal} (Ok tt) (save_verdict b)) × (b' ≡ saved_in c b)
 unfolding save_verdict saved_in image_in
 save-right c b b' w w' e l r h =
     let all : w' ≡ chain.enc c = r.over.is ∙ laid-all w (chain.enc c) (l ∙ sym r.size) in (
@@ -103,7 +105,7 @@ module _ (old : Chain) (b : List ℕ) where
   module _ (n : ℕ) (z w again : List ℕ) (new : Chain) (older t : Bool) (s : Bytes b) (i : other_length ≡ false) (f : n ≡ first_bad b) (g : n ≡ blocks_in b)
       (lz : length z ≡ payload_words) (p : w ≡ laid z 0 (payload_of b)) (o : older ≡ old_length b)
       (r : new ≡ cond older (widened (base.dec w 0)) (chain.dec w 0))
-      (a : again ≡ laid z 0 (cond older (base.enc (base_of new)) (chain.enc new))) (u : t ≡ same again w) where
+      (a : again ≡ laid z 0 (cond older (base.enc (base_of new)) (chain.enc new))) (u : t ≡ bytes_eq again w) where
     -- ---- edition 1
     module _ (l : length b ≡ first.image_bytes) where
       checks_old : first_bad b ≡ first.block_count
@@ -127,7 +129,7 @@ module _ (old : Chain) (b : List ℕ) where
       read_old : t ≡ true → meaning b ≡ new
       read_old h =
           meaning_old b (eq-eqb (length b) first.image_bytes l)
-          ∙ ap {B = Chain} widened (sym (edition.is_read first-laws b s l checks_old z w again (base.dec w 0) room_old p refl again_old (same-eq again w (sym u ∙ h))))
+          ∙ ap {B = Chain} widened (sym (edition.is_read first-laws b s l checks_old z w again (base.dec w 0) room_old p refl again_old ((bytes_eq-Decides again w).0 (sym u ∙ h))))
           ∙ sym new_old
 
     -- ---- edition 2
@@ -151,7 +153,7 @@ module _ (old : Chain) (b : List ℕ) where
       test-new = edition.test second-laws b s l checks_new z w again new room-new p new-new again-new ∙ sym u
 
       read-new : t ≡ true → meaning b ≡ new
-      read-new h = meaning-new b (not_old b l) ∙ sym (edition.is_read second-laws b s l checks_new z w again new room-new p new-new again-new (same-eq again w (sym u ∙ h)))
+      read-new h = meaning-new b (not_old b l) ∙ sym (edition.is_read second-laws b s l checks_new z w again new room-new p new-new again-new ((bytes_eq-Decides again w).0 (sym u ∙ h)))
 
     -- ---- either
     pub good : t ≡ true → ◌≡◌ {A = Changed} (changed new) (restore_of old b)

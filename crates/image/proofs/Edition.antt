@@ -9,10 +9,12 @@ use native.Mathlib.Omega.{arith}
 use borrow.Author.Tests.{eq-eqb, ne_eqb}
 use lib.ListN.{length, take, get_or}
 use lib.Seq.{get_or-take}
-use Rattle.blocks.specs.Lists.{Bytes, laid, same}
+use Rattle.std.specs.Prelude.{bytes_eq}
+use Rattle.std.proofs.lemmas.Slice.Eq.{bytes_eq-Decides}
+use Rattle.blocks.specs.Lists.{Bytes, laid}
 use Rattle.blocks.specs.Words.{block_bytes, block_words, checked_words, blocks_in, first_bad}
 use Rattle.blocks.specs.Image.{payload_of, OneWord}
-use Rattle.blocks.proofs.Lists.{laid-start, same_refl, same-eq, same-both}
+use Rattle.blocks.proofs.Lists.{laid-start, same-both}
 use Rattle.blocks.proofs.Images as images
 use Rattle.blocks.proofs.Single.{inside, one-word_caught}
 use Rattle.codec.specs.Codec.{CodecLaws, Here}
@@ -64,7 +66,7 @@ module _ {A : Type 0} {e : Edition A} (q : EditionLaws e) where
 
     image_ours : ours_in e (image_in e s) ≡ true
     unfolding ours_in
-    image_ours = rw read-image (same_refl (image_in e s))
+    image_ours = rw read-image ((bytes_eq-Decides (image_in e s) (image_in e s)).1 refl)
 
     -- its image is accepted
     pub image-accepted : refuses_in e (image_in e s) ≡ 0
@@ -92,7 +94,7 @@ module _ {A : Type 0} {e : Edition A} (q : EditionLaws e) where
 
     -- accepted bytes are the image of the state that is read
     pub accepted-image : refuses_in e b ≡ 0 → image_in e (read_in e b) ≡ b
-    accepted-image h = same-eq (image_in e (read_in e b)) b (unfold ours_in in accepted_ours h)
+    accepted-image h = (bytes_eq-Decides (image_in e (read_in e b)) b).0 (unfold ours_in in accepted_ours h)
 
     -- so their length is an image's, and their checks hold
     pub accepted-length : refuses_in e b ≡ 0 → length b ≡ block_bytes * e.blocks
@@ -142,7 +144,7 @@ module _ {A : Type 0} {e : Edition A} (q : EditionLaws e) where
         images.payload-length b ∙ ap (λ (n : ℕ). checked_words * n) k
 
     -- bytes are compared with an image as words with a payload
-    ours_words : ours_in e b ≡ same (e.words.enc (read_in e b)) (payload_of b)
+    ours_words : ours_in e b ≡ bytes_eq (e.words.enc (read_in e b)) (payload_of b)
     unfolding ours_in image_in
     ours_words =
         let ok = read_ok b in
@@ -156,8 +158,8 @@ module _ {A : Type 0} {e : Edition A} (q : EditionLaws e) where
     unfolding read_in
     accepted-reads =
         let a = reads_all q.words (payload_of b) (payload-length ∙ sym q.size) in (
-          (λ h. a.1 (same-eq _ _ (sym ours_words ∙ accepted_ours b h))),
-          λ r. by-words ∙ ap (ruling true true) (ours_words ∙ ap (λ (x : List ℕ). same x (payload_of b)) (a.0 r) ∙ same_refl (payload_of b)),
+          (λ h. a.1 ((bytes_eq-Decides _ _).0 (sym ours_words ∙ accepted_ours b h))),
+          λ r. by-words ∙ ap (ruling true true) (ours_words ∙ ap (λ (x : List ℕ). bytes_eq x (payload_of b)) (a.0 r) ∙ (bytes_eq-Decides (payload_of b) (payload_of b)).1 refl),
         )
 
     -- they are accepted or foreign
@@ -220,5 +222,5 @@ module _ {A : Type 0} {e : Edition A} (q : EditionLaws e) where
           let n : e.words.dec w 0 ≡ read_in e b = q.words.back (read_in e b) w 0 (read_ok b) (here (e.words.enc (read_in e b)) h) in
           a ∙ ap (laid z 0) (ap e.words.enc (r ∙ n) ∙ h) ∙ sym p
 
-      pub test : ours_in e b ≡ same again w
+      pub test : ours_in e b ≡ bytes_eq again w
       test = ours_words ∙ same-both again-words (λ h. sym (ap e.words.enc (is_read h)) ∙ words-again h)

@@ -1,7 +1,6 @@
 -- An edition of the image: how a state is written in the words of so many blocks. The image of a state, what some bytes are read as, and which
 -- bytes are turned away. Definitions only.
-use Rattle.std.specs.Prelude.{Bool, not, List, [], ◌∷◌, ℕ, ◌*◌, eqb, length}
-use Rattle.blocks.specs.Lists.{same}
+use Rattle.std.specs.Prelude.{Bool, not, List, [], ◌∷◌, ℕ, ◌*◌, eqb, length, bytes_eq}
 use Rattle.blocks.specs.Words.{block_bytes, first_bad}
 use Rattle.blocks.specs.Image.{image_of, payload_of}
 use Rattle.codec.specs.Codec.{Codec}
@@ -22,7 +21,7 @@ read_in e b = e.words.dec (payload_of b) 0
 
 -- bytes are a state's image: writing what is read gives them again
 unfoldable pub ours_in : {A : Type 0} → Edition A → List ℕ → Bool
-ours_in e b = same (image_in e (read_in e b)) b
+ours_in e b = bytes_eq (image_in e (read_in e b)) b
 
 -- as long as an image
 abbrev pub length_in : {A : Type 0} → Edition A → List ℕ → Bool

@@ -1,11 +1,10 @@
 -- Saving and restoring a chain: its image, what bytes of either edition mean, which are turned away and why, and what the two calls do.
 -- Definitions only.
-use Rattle.std.specs.Prelude.{Bool, cond, List, ℕ}
+use Rattle.refusal.specs.declared.Refusal.{Refusal}
+use Rattle.std.specs.Prelude.{Bool, cond, List, ℕ, Result, Ok, Err}
 use Rattle.refusal.specs.declared.Refusal.TheVariants.{WrongLength, BadCheck, ForeignImage}
 use Rattle.chain.specs.declared.Chain.{Chain}
 use Rattle.chain.specs.declared.Changed.{Changed}
-use Rattle.chain.specs.declared.Verdict.{Verdict}
-use Rattle.chain.specs.declared.Verdict.TheVariants.{Passed, Refused}
 use Rattle.chain.specs.Chain.{changed, unchanged}
 use Rattle.chain.specs.Base.{widened}
 use Rattle.image.specs.Edition.{Edition, image_in, read_in, length_in, checks_in, ours_in, refuses_in}
@@ -41,8 +40,8 @@ refuses_image b = cond (old_length b) (refuses_in first_edition b) (refuses_in s
 -- ---- the two calls
 
 -- what a save answers, and the lent bytes after it
-unfoldable pub save_verdict : List ℕ → Verdict
-save_verdict b = cond (right_length b) Passed (Refused WrongLength)
+unfoldable pub save_verdict : List ℕ → Result Unit Refusal
+save_verdict b = cond (right_length b) (Ok tt) (Err WrongLength)
 
 unfoldable pub saved_in : Chain → List ℕ → List ℕ
 saved_in c b = cond (right_length b) (image c) b

@@ -1,11 +1,10 @@
 -- A save and a restore as steps of a port, in the demands' words. Definitions only.
-use Rattle.std.specs.Prelude.{cond, List, ℕ}
+use Rattle.refusal.specs.declared.Refusal.{Refusal}
+use Rattle.std.specs.Prelude.{cond, List, ℕ, Result, Ok, Err}
 use Rattle.refusal.specs.declared.Refusal.TheVariants.{WrongLength}
 use Rattle.refusal.specs.Table.{number_of}
 use Rattle.demands.specs.Calls.{event, save, restore, Reply, refusal, passed, done, Step, gets, Images, all_calls, Port}
 use Rattle.chain.specs.declared.Chain.{Chain}
-use Rattle.chain.specs.declared.Verdict.{Verdict}
-use Rattle.chain.specs.declared.Verdict.TheVariants.{Passed, Refused}
 use Rattle.rules.specs.Rules.{rules}
 use Rattle.rules.specs.Rules as events
 use Rattle.image.specs.Layout.{image_bytes}
@@ -13,9 +12,9 @@ use Rattle.image.specs.Image.{words_of, image, right_length, meaning, refuses_im
 
 module _ {Answer : Type 0} where
   -- what a verdict is to the caller
-  abbrev pub reply_of : Verdict → Reply Answer
-  reply_of Passed = passed done
-  reply_of (Refused r) = refusal (number_of r)
+  abbrev pub reply_of : Result Unit Refusal → Reply Answer
+  reply_of (Ok _) = passed done
+  reply_of (Err r) = refusal (number_of r)
 
   abbrev pub on_save : Chain → List ℕ → Step Chain Answer
   on_save c b = gets (reply_of (save_verdict b)) (saved_in c b) c

@@ -25,7 +25,7 @@ ghost use Rattle.image.specs.Layout.{body_words, payload_words};
 ghost use Rattle.image.specs.Edition1 as first;
 ghost use Rattle.image.specs.Image.{save_verdict, saved_in, restore_of};
 
-use chain::{Chain, Changed, Verdict};
+use chain::{Chain, Changed};
 use channels::Surround;
 use comis::loop_bank::Loops;
 use float::{Db, Lufs};
@@ -75,26 +75,28 @@ const OLD_UNUSED: usize = SURROUND as usize;
 const OLD_UNUSED_WORDS: usize = OLD_WORDS - OLD_UNUSED;
 
 // ---- writing, from place `at` on
+//
+// Each function says how far its words reach, so that their places fit: a type for a place would have to say it at each step.
 
 fn put_strand_settings(w: &mut [u64], at: usize, s: VadSettings)
     requires { at + 3 ≤ 2 ^ 64 }
     ensures { Run w.old at 3 (strand_settings.enc s) w.new }
 {
-    codec::put64(w, at, s.threshold);
-    codec::put64(w, at + 1, s.hold_ms);
-    codec::put64(w, at + 2, s.gate_lufs.0);
+    codec::put(w, at, s.threshold);
+    codec::put(w, at + 1, s.hold_ms);
+    codec::put(w, at + 2, s.gate_lufs.0);
 }
 
 fn put_duck(w: &mut [u64], at: usize, s: Duck)
     requires { at + 6 ≤ 2 ^ 64 }
     ensures { Run w.old at 6 (duck.enc s) w.new }
 {
-    codec::put_flag(w, at, s.enabled);
-    codec::put64(w, at + 1, s.target_lu);
-    codec::put64(w, at + 2, s.overvoice_lu);
-    codec::put64(w, at + 3, s.max_reduction_db.0);
-    codec::put64(w, at + 4, s.speed);
-    codec::put_flag(w, at + 5, s.bed_voice);
+    codec::put(w, at, s.enabled);
+    codec::put(w, at + 1, s.target_lu);
+    codec::put(w, at + 2, s.overvoice_lu);
+    codec::put(w, at + 3, s.max_reduction_db.0);
+    codec::put(w, at + 4, s.speed);
+    codec::put(w, at + 5, s.bed_voice);
 }
 
 fn put_settings(w: &mut [u64], at: usize, s: Settings)
@@ -110,10 +112,10 @@ fn put_loops(w: &mut [u64], at: usize, s: Loops)
     requires { at + 4 ≤ 2 ^ 64 }
     ensures { Run w.old at 4 (loops.enc s) w.new }
 {
-    codec::put64(w, at, s.slow.0);
-    codec::put64(w, at + 1, s.mid.0);
-    codec::put64(w, at + 2, s.fast.0);
-    codec::put64(w, at + 3, s.hold_remaining_seconds);
+    codec::put(w, at, s.slow.0);
+    codec::put(w, at + 1, s.mid.0);
+    codec::put(w, at + 2, s.fast.0);
+    codec::put(w, at + 3, s.hold_remaining_seconds);
 }
 
 // Words 1 to 1,272: settings, key strand, bed strand, loops.
@@ -161,9 +163,9 @@ fn get_strand_settings(w: &[u64], at: usize) -> VadSettings
     requires { at + 3 ≤ 2 ^ 64 }
     ensures { result ≡ strand_settings.dec w.now at }
 {
-    let threshold = codec::get64(w, at);
-    let hold_ms = codec::get64(w, at + 1);
-    let gate_lufs = codec::get64(w, at + 2);
+    let threshold = codec::get(w, at);
+    let hold_ms = codec::get(w, at + 1);
+    let gate_lufs = codec::get(w, at + 2);
     VadSettings {
         threshold,
         hold_ms,
@@ -175,12 +177,12 @@ fn get_duck(w: &[u64], at: usize) -> Duck
     requires { at + 6 ≤ 2 ^ 64 }
     ensures { result ≡ duck.dec w.now at }
 {
-    let enabled = codec::get_flag(w, at);
-    let target_lu = codec::get64(w, at + 1);
-    let overvoice_lu = codec::get64(w, at + 2);
-    let max_reduction_db = codec::get64(w, at + 3);
-    let speed = codec::get64(w, at + 4);
-    let bed_voice = codec::get_flag(w, at + 5);
+    let enabled = codec::get(w, at);
+    let target_lu = codec::get(w, at + 1);
+    let overvoice_lu = codec::get(w, at + 2);
+    let max_reduction_db = codec::get(w, at + 3);
+    let speed = codec::get(w, at + 4);
+    let bed_voice = codec::get(w, at + 5);
     Duck {
         enabled,
         target_lu,
@@ -248,10 +250,10 @@ fn get_loops(w: &[u64], at: usize) -> Loops
     requires { at + 4 ≤ 2 ^ 64 }
     ensures { result ≡ loops.dec w.now at }
 {
-    let slow = codec::get64(w, at);
-    let mid = codec::get64(w, at + 1);
-    let fast = codec::get64(w, at + 2);
-    let hold_remaining_seconds = codec::get64(w, at + 3);
+    let slow = codec::get(w, at);
+    let mid = codec::get(w, at + 1);
+    let fast = codec::get(w, at + 2);
+    let hold_remaining_seconds = codec::get(w, at + 3);
     Loops {
         slow: Db(slow),
         mid: Db(mid),
@@ -290,16 +292,16 @@ fn get_either(w: &[u64], older: bool) -> Chain
 // ---- the two calls
 
 // Saves a chain into b. Refusal 6: b isn't 11,264 bytes long; then none of them is changed.
-pub fn save(c: Chain, b: &mut [u8]) -> Verdict
+pub fn save(c: Chain, b: &mut [u8]) -> Result<(), Refusal>
     ensures { (result ≡ save_verdict b.old) × (b.new ≡ saved_in c b.old) }
 {
     if b.len() != BYTES {
-        return Verdict::Refused(Refusal::WrongLength);
+        return Err(Refusal::WrongLength);
     }
     let mut w = [0u64; WORDS];
     put_chain(&mut w, c);
     blocks::write_image(&w, b);
-    Verdict::Passed
+    Ok(())
 }
 
 // Restores a chain: the one that b means, or the old one and why not. Refusals 6: b is neither 11,264 bytes long nor 10,752; 7: a block's
@@ -310,13 +312,13 @@ pub fn restore(old: Chain, b: &[u8]) -> Changed
     if (b.len() != BYTES) & (b.len() != OLD_BYTES) {
         return Changed {
             chain: old,
-            verdict: Verdict::Refused(Refusal::WrongLength),
+            verdict: Err(Refusal::WrongLength),
         };
     }
     if blocks::first_bad(b) != b.len() / BLOCK_BYTES {
         return Changed {
             chain: old,
-            verdict: Verdict::Refused(Refusal::BadCheck),
+            verdict: Err(Refusal::BadCheck),
         };
     }
     let mut w = [0u64; WORDS];
@@ -325,14 +327,14 @@ pub fn restore(old: Chain, b: &[u8]) -> Changed
     let new = get_either(&w, older);
     let mut again = [0u64; WORDS];
     put_either(&mut again, older, new);
-    if blocks::same_words(&again, &w) {
+    if again == w {
         return Changed {
             chain: new,
-            verdict: Verdict::Passed,
+            verdict: Ok(()),
         };
     }
     Changed {
         chain: old,
-        verdict: Verdict::Refused(Refusal::ForeignImage),
+        verdict: Err(Refusal::ForeignImage),
     }
 }

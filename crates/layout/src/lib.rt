@@ -17,7 +17,7 @@ pub struct Place {
     pub lfe: u64,
 }
 
-// The first count of the places are the channels', in their order.
+// The first count of the places are the channels', in their order. The count stands beside an array, since it too is a word as it comes: any can be held.
 #[derive(Clone, Copy)]
 pub struct Layout {
     pub count: u64,
@@ -28,124 +28,98 @@ pub struct Layout {
 pub fn channel_count(count: u64) -> usize
     ensures { result ≡ channel_count count }
 {
-    sequence::most(sequence::least(count as usize, MOST), 1)
+    (count as usize).clamp(1, MOST)
 }
 
 // How many degrees an angle is from 0, on either side.
+#[tactic(auto, unfolding(crate::specs::Layout::size_of))]
 pub fn size(angle: u64) -> u64
     ensures { result ≡ size_of angle }
 {
-    if angle < 0x8000_0000_0000_0000 {
-        return angle;
-    }
-    u64::MAX - angle + 1
+    angle.cast_signed().unsigned_abs()
 }
 
 impl Place {
     // Whether both angles are in their ranges, an LFE's too, and the flag is 0 or 1.
+    #[tactic(auto, unfolding(crate::specs::Layout::within_of))]
     pub fn within(self) -> bool
         ensures { result ≡ within_of self }
     {
-        (size(self.azimuth) <= 180) & (size(self.elevation) <= 90) & (self.lfe <= 1)
+        size(self.azimuth) <= 180 && size(self.elevation) <= 90 && self.lfe <= 1
     }
 
     // The place as it is stored: an LFE's angles are 0.
+    #[tactic(auto, unfolding(crate::specs::Layout::placed_of))]
     pub fn placed(self) -> Place
         ensures { result ≡ placed_of self }
     {
         if self.lfe == 0 {
-            return self;
-        }
-        Place {
-            azimuth: 0,
-            elevation: 0,
-            lfe: self.lfe,
+            self
+        } else {
+            Place {
+                azimuth: 0,
+                elevation: 0,
+                ..self
+            }
         }
     }
 
     // The channel's weight by BS.1770-4.
+    #[tactic(auto, unfolding(crate::specs::Weights::weight_of, crate::specs::Weights::surround))]
     pub fn weight(self) -> f64
         ensures { result ≡ weight_of self }
     {
-        if self.lfe == 0 {
-            let across = size(self.azimuth);
-            if (size(self.elevation) < 30) & (60 <= across) & (across <= 120) {
-                return 1.41;
-            }
-            return 1.0;
+        if self.lfe != 0 {
+            0.0
+        } else if size(self.elevation) < 30 && (60..=120).contains(&size(self.azimuth)) {
+            1.41
+        } else {
+            1.0
         }
-        0.0
     }
 }
 
-fn no_places() -> [Place; 8]
-    ensures { result ≡ blanks }
-{
-    [Place {
-        azimuth: 0,
-        elevation: 0,
-        lfe: 0,
-    }; 8]
-}
-
-fn no_weights() -> [f64; 8]
-    ensures { result ≡ no_weights }
-{
-    [0.0; 8]
-}
+// What stands in the places after the channels'.
+const BLANK: Place = Place {
+    azimuth: 0,
+    elevation: 0,
+    lfe: 0,
+};
 
 impl Layout {
     // A fresh chain's: one channel at 0, 0.
+    #[tactic(auto, unfolding(crate::specs::Layout::blanks))]
     pub fn new() -> Self
         ensures { result ≡ mono_of }
     {
-        let places = no_places();
-        Self { count: 1, places }
+        Self {
+            count: 1,
+            places: [BLANK; 8],
+        }
     }
 
     // The number of channels in use, at most 8.
     pub fn channels(self) -> usize
         ensures { result ≡ min self.count 8 }
     {
-        sequence::least(self.count as usize, MOST)
+        (self.count as usize).min(MOST)
     }
 
     // Whether it is accepted: 1 to 8 channels, each of them within the ranges.
     pub fn within(self) -> bool
         ensures { result ≡ layout_within self }
     {
-        let places = self.places;
         let n = self.count as usize;
-        if n < 1 {
-            return false;
-        }
-        if MOST < n {
-            return false;
-        }
-        let mut i = 0;
-        while i < n {
-            let p = places[i];
-            if p.within() {
-                i += 1;
-            } else {
-                return false;
-            }
-        }
-        true
+        (1..=MOST).contains(&n) && self.places[..n].iter().all(|p| p.within())
     }
 
     // The layout as it is stored: an LFE's angles are 0, and what is unused is 0.
     pub fn stored(self) -> Layout
         ensures { result ≡ stored_of self }
     {
-        let from = self.places;
-        let n = self.channels();
-        let mut places = no_places();
-        let mut i = 0;
-        while i < n {
-            let p = from[i];
-            places[i] = p.placed();
-            i += 1;
+        let mut places = [BLANK; 8];
+        for (i, place) in self.places[..self.channels()].iter().enumerate() {
+            places[i] = place.placed();
         }
         Layout {
             count: self.count,
@@ -157,14 +131,9 @@ impl Layout {
     pub fn weights(self) -> [f64; 8]
         ensures { result ≡ weights_of self }
     {
-        let from = self.places;
-        let n = self.channels();
-        let mut weights = no_weights();
-        let mut i = 0;
-        while i < n {
-            let p = from[i];
-            weights[i] = p.weight();
-            i += 1;
+        let mut weights = [0.0; 8];
+        for (i, place) in self.places[..self.channels()].iter().enumerate() {
+            weights[i] = place.weight();
         }
         weights
     }

@@ -8,7 +8,8 @@ use lib.Ieee.Scale.{finite}
 use Rattle.float.proofs.Exact.{nil_and, by_one}
 use Rattle.biquad.specs.Sections.{k_shelf, k_high_pass}
 use Rattle.sequence.specs.History.{latest, pushed}
-use Rattle.sequence.proofs.Latest.{pushed-latest}
+use Rattle.sequence.specs.Latest.{zeros}
+use Rattle.sequence.proofs.Deque.{pushed-latest}
 use Rattle.sequence.proofs.Newest.{newest-of-latest}
 use Rattle.sequence.proofs.Series.{series_take}
 use Rattle.level.specs.declared.Weighing.{Weighing}
@@ -18,7 +19,7 @@ use Rattle.level.specs.Bs1770.{filtered, weighted, energy, power, powers, frames
 use Rattle.float.specs.Arithmetic.{◌⊘◌, zero64, whole}
 use Rattle.float.specs.AllFinite.{all_finite}
 use Rattle.level.specs.Weighing.{clean_of, run_of}
-use Rattle.level.specs.Level.{zeros, lufs_of, fresh_of, frame_of}
+use Rattle.level.specs.Level.{lufs_of, fresh_of, frame_of}
 use Rattle.level.specs.Deque.{Meter, new_meter, meter_run, deque_mean, joint, kept, frames_with, meter_next, meter_reading, meter_of}
 use Rattle.level.specs.Heard.{Whole, heard, joined, level_after, bs1770, ReadsBs1770, EarlyFrames, FirstFrame, HearsSamples}
 use Rattle.level.proofs.Deque.{mean-deque, level-deque, level-deque-reading, level-places}

@@ -3,15 +3,15 @@ use Rattle.std.proofs.Common.{◌≡◌, ℕ, min, List, [], ◌∷◌, length, 
 use mathlib.Core.List.{foldl}
 use lib.Ieee.{Float}
 use Rattle.sequence.specs.History.{newest, held, pushed}
+use Rattle.sequence.specs.Latest.{push_of}
 use Rattle.sequence.proofs.Newest.{newest-length}
 use Rattle.sequence.proofs.Places.{places-length, held_pushes}
 use Rattle.float.specs.Arithmetic.{◌⊕◌, ◌⊘◌, zero64, whole}
 use Rattle.level.specs.declared.Joint.{Joint}
-use Rattle.level.specs.declared.Powers.{Powers}
 use Rattle.level.specs.declared.Level.{Level}
 use Rattle.level.specs.Bs1770.{mean}
 use Rattle.level.specs.Weighing.{run_of}
-use Rattle.level.specs.Level.{push_of, means_of, lufs_of, reading_of, read_of, start_of, finish_of, frame_of}
+use Rattle.level.specs.Level.{Powers, means_of, lufs_of, reading_of, read_of, start_of, finish_of, frame_of}
 use Rattle.level.specs.Deque.{deque_mean, joint, kept, answered, frames_with, meter_next, meter_reading, meter_of}
 
 -- the Rust's divisor is the number of the frames that it adds

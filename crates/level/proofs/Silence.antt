@@ -25,6 +25,6 @@ held_all x zero w h = refl
 held_all x (suc n) w h =
     held_all x n (held_step (shelf_output w x) w) h ∙ ap (λ (u : Weighing). foldl step_of u (replicate n x)) (held-step w x h)
 
-pub held-run : (x : Float) (w : Weighing) (xs : List Float) → Same x xs → Stays w x → held_run (shelf_output w x) w xs ≡ foldl step_of w xs
-held-run x w xs s h =
+pub held_alike : (x : Float) (w : Weighing) (xs : List Float) → Same x xs → Stays w x → held_run (shelf_output w x) w xs ≡ foldl step_of w xs
+held_alike x w xs s h =
     subst (λ (l : List Float). held_run (shelf_output w x) w l ≡ foldl step_of w l) (sym s) (held_all x (length xs) w h)

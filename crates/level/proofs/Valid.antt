@@ -6,13 +6,14 @@ use lib.Ieee.Fits.{add-fits, sub-fits, and_l, and_r}
 use lib.Ieee.Scale.{finite}
 use Rattle.biquad.specs.Tick.{tick_of}
 use Rattle.float.specs.Valid.{Num}
+use Rattle.sequence.specs.Latest.{zeros, push_of}
 use Rattle.sequence.proofs.Counted.{counted_none, counted-more}
 use Rattle.level.specs.declared.Weighing.{Weighing}
 use Rattle.level.specs.declared.Level.{Level}
 use Rattle.float.specs.Arithmetic.{zero64}
 use Rattle.float.specs.AllFinite.{all_finite}
 use Rattle.level.specs.Weighing.{clean_of, step_of, run_of}
-use Rattle.level.specs.Level.{joined_of, zeros, push_of, read_of, fresh_of, start_of, stored_of, finish_of, frame_of}
+use Rattle.level.specs.Level.{joined_of, read_of, fresh_of, start_of, stored_of, finish_of, frame_of}
 use Rattle.level.specs.Deque.{joint}
 use Rattle.level.specs.Valid.{Valid}
 use Rattle.level.proofs.Finite.{all-at}

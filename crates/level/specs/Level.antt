@@ -1,13 +1,14 @@
 -- `Level::frame` on the port's record: a count and 300 places.
-use Rattle.std.specs.Prelude.{ℕ, max, ◌&&◌, List, [], ◌∷◌, length, replicate, Float}
+use Rattle.std.specs.Prelude.{ℕ, max, ◌&&◌, List, [], ◌∷◌, length, Float}
 use mathlib.Core.List.{foldl}
 use Rattle.biquad.specs.Tick.{at_rest}
 use Rattle.float.specs.declared.Lufs.{Lufs}
 use Rattle.float.specs.Choice.{max_of}
-use Rattle.sequence.specs.History.{newest, held, count_after, places_after}
+use Rattle.sequence.specs.declared.Latest.{Latest}
+use Rattle.sequence.specs.History.{newest, held}
+use Rattle.sequence.specs.Latest.{no_values, push_of}
 use Rattle.level.specs.declared.Weighing.{Weighing}
 use Rattle.level.specs.declared.Joint.{Joint}
-use Rattle.level.specs.declared.Powers.{Powers}
 use Rattle.level.specs.declared.Means.{Means}
 use Rattle.level.specs.declared.Reading.{Reading}
 use Rattle.level.specs.declared.Read.{Read}
@@ -29,18 +30,12 @@ joined_of j weight w n = record { power = j.power ⊕ weight ⊗ w.energy ⊘ wh
 
 -- ---- the powers of the latest frames
 
-unfoldable pub zeros : List Float
-zeros = replicate short_term_frames zero64
+abbrev pub Powers : Type 0
+Powers = Latest short_term_frames
 
-abbrev pub no_powers : Powers
-no_powers = record { count = 0; list = zeros }
-
-unfoldable pub push_of : Powers → Float → Powers
-push_of p x = record { count = count_after short_term_frames p.count 1; list = places_after p.count p.list (x ∷ []) }
-
--- from a sum on, at most n of the values that are held, newest first
-unfoldable pub sum_of : Float → ℕ → ℕ → List Float → Float
-sum_of sum n count places = foldl ◌⊕◌ sum (newest n (held count places))
+-- from a sum on, at most n of the values, newest first
+unfoldable pub sum_of : Float → ℕ → List Float → Float
+sum_of sum n xs = foldl ◌⊕◌ sum (newest n xs)
 
 -- the mean of the newest n frames, or of all that are held where there are fewer
 abbrev pub mean_of : ℕ → Powers → Float
@@ -83,7 +78,7 @@ read_of j p = read_all j (push_of p j.power) (means_of (push_of p j.power))
 -- ---- a frame
 
 abbrev pub fresh_of : Level
-fresh_of = record { shelf = at_rest; high_pass = at_rest; fast = zero64; powers = no_powers }
+fresh_of = record { shelf = at_rest; high_pass = at_rest; fast = zero64; powers = no_values short_term_frames }
 
 unfoldable pub start_of : Level → Weighing
 start_of l = record { shelf = l.shelf; high_pass = l.high_pass; fast = l.fast; energy = zero64 }

@@ -2,22 +2,22 @@
 // Before 400 ms or 3 s of frames the means are those of the frames that there are.
 #![tactic(auto)]
 
-ghost use Rattle.std.specs.Prelude.{◌≡◌, ◌<◌, T};
+ghost use Rattle.std.specs.Prelude.{◌≡◌, ◌<◌, T, length};
 ghost use mathlib.Core.List.{foldl};
+ghost use Rattle.sequence.specs.Latest.{push_of};
+ghost use Rattle.float.specs.AllFinite.{all_finite};
 ghost use Rattle.float.specs.Arithmetic.{◌⊘◌, whole};
 ghost use Rattle.biquad.specs.Tick.{tick_of};
 ghost use Rattle.level.specs.Rest.{same_state, holds_of, rests_of, shelf_output, held_step, held_run, still_step};
 ghost use Rattle.level.specs.Weighing.{clean_of, step_of, run_of};
 ghost use Rattle.level.specs.Level.{
   joined_of,
-  zeros,
-  no_powers,
-  push_of,
   sum_of,
   means_of,
   lufs_of,
   read_of,
   start_of,
+  stored_of,
   finish_of,
   fresh_of,
   frame_of,
@@ -25,6 +25,7 @@ ghost use Rattle.level.specs.Level.{
 
 use biquad::{Coefficients, K_HIGH_PASS, K_SHELF, State};
 use float::{Lufs, SILENCE_LUFS};
+use sequence::Latest;
 
 // Samples of a frame: 10 ms at 48 kHz.
 pub const FRAME: usize = 480;
@@ -34,6 +35,9 @@ const MOMENTARY: usize = 40;
 
 // Frames of the short-term loudness: 3 s.
 const SHORT_TERM: usize = 300;
+
+// The powers of the latest frames, oldest first; the places after them are 0.
+pub type Powers = Latest<SHORT_TERM>;
 
 // The share of the fast mean square that stays with each sample: exp(-1 / 2400), a time constant of 50 ms.
 const FAST_COEFF: f64 = 0.9995833639986813;
@@ -60,13 +64,6 @@ pub struct Joint {
     pub fast: f64,
 }
 
-// The powers of the latest frames, oldest first; the places after them are 0.
-#[derive(Clone, Copy)]
-pub struct Powers {
-    pub count: usize,
-    pub list: [f64; 300],
-}
-
 // The mean powers of 400 ms and of 3 s, or of all frames where there are fewer.
 #[derive(Clone, Copy)]
 pub struct Means {
@@ -83,7 +80,8 @@ pub struct Reading {
     pub fast: Lufs,
 }
 
-// The powers with this frame's, what they read, and whether every number that is stored, answered or handed to the logarithm is finite.
+// The powers with this frame's, what they read, and whether every number that is stored, answered or handed to the logarithm is finite. A flag beside
+// the values, here and below: they are promised whatever it says, since the numbers of both strands are tested together.
 #[derive(Clone, Copy)]
 pub struct Read {
     pub powers: Powers,
@@ -109,6 +107,7 @@ pub struct Framed {
 }
 
 // Whether two states are surely the same: their numbers have the same bits, and none is NaN.
+#[tactic(auto, unfolding(crate::specs::Rest::same_state))]
 pub fn same_state(s: State, t: State) -> bool
     ensures { (result ≡ same_state s t) × (T result → s ≡ t) }
 {
@@ -127,43 +126,32 @@ pub fn holds(s: State, c: Coefficients, x: f64) -> bool
 pub fn clean(v: f32) -> f64
     ensures { result ≡ clean_of v }
 {
-    if float::finite32(v) {
-        return v as f64;
-    }
-    0.0
+    // `as` needs no test for NaN when it runs, which `f64::from` makes.
+    if float::finite(v) { v as f64 } else { 0.0 }
 }
 
 impl Weighing {
     // One sample through the shelf and the high-pass.
+    #[tactic(auto, unfolding(crate::specs::Weighing::step_of, crate::specs::Rest::held_step))]
     pub fn step(self, x: f64) -> Weighing
         ensures { result ≡ step_of self x }
     {
         let a = self.shelf.tick(K_SHELF, x);
-        let b = self.high_pass.tick(K_HIGH_PASS, a.y);
-        let y2 = b.y * b.y;
-        let shelf = a.state;
-        let high_pass = b.state;
         Weighing {
-            shelf,
-            high_pass,
-            fast: self.fast * FAST_COEFF + y2 * (1.0 - FAST_COEFF),
-            energy: self.energy + y2,
+            shelf: a.state,
+            ..self.held_step(a.y)
         }
     }
 
     // One sample for which the shelf's output is v and its state stays.
+    #[tactic(auto, unfolding(crate::specs::Rest::held_step))]
     pub fn held_step(self, v: f64) -> Weighing
         ensures { result ≡ held_step v self }
     {
         let b = self.high_pass.tick(K_HIGH_PASS, v);
-        let y2 = b.y * b.y;
-        let shelf = self.shelf;
-        let high_pass = b.state;
         Weighing {
-            shelf,
-            high_pass,
-            fast: self.fast * FAST_COEFF + y2 * (1.0 - FAST_COEFF),
-            energy: self.energy + y2,
+            high_pass: b.state,
+            ..self.still_step(b.y * b.y)
         }
     }
 
@@ -171,13 +159,10 @@ impl Weighing {
     pub fn still_step(self, y2: f64) -> Weighing
         ensures { result ≡ still_step y2 self }
     {
-        let shelf = self.shelf;
-        let high_pass = self.high_pass;
         Weighing {
-            shelf,
-            high_pass,
             fast: self.fast * FAST_COEFF + y2 * (1.0 - FAST_COEFF),
             energy: self.energy + y2,
+            ..self
         }
     }
 
@@ -189,36 +174,47 @@ impl Weighing {
     }
 
     // Whether all samples are surely x and leave the shelf's state as it is. Then the shelf need not be run.
+    #[tactic(auto, unfolding(crate::specs::Rest::rests_of), using(crate::proofs::Silence::held_alike))]
     pub fn rests(self, x: f64, xs: &[f64]) -> bool
         ensures { (result ≡ rests_of self x xs.now)
             × (T result → held_run (shelf_output self x) self xs.now ≡ foldl step_of self xs.now) }
     {
-        if float::all_same(x, xs) {
-            return holds(self.shelf, K_SHELF, x);
-        }
-        false
+        float::all_same(x, xs) && holds(self.shelf, K_SHELF, x)
     }
 
     // All samples of a frame.
+    #[tactic(auto, unfolding(crate::specs::Weighing::run_of))]
     pub fn run(mut self, xs: &[f32]) -> Weighing
         ensures { result ≡ run_of self xs.now }
     {
-        let mut i = 0;
-        while i < xs.len() {
-            let x = clean(xs[i]);
-            self = self.step(x);
-            i += 1;
+        for x in xs {
+            self = self.step(clean(*x));
         }
         self
+    }
+
+    // Whether the numbers that a channel stores are finite.
+    pub fn stored_finite(self) -> bool
+        ensures { result ≡ all_finite (stored_of self) }
+    {
+        let stored = [
+            self.shelf.z1,
+            self.shelf.z2,
+            self.high_pass.z1,
+            self.high_pass.z2,
+            self.fast,
+        ];
+        float::all_finite(&stored)
     }
 }
 
 impl Joint {
     // One channel more: its weight, and what its frame of n samples came to.
+    #[tactic(auto, unfolding(crate::specs::Level::joined_of))]
     pub fn join(self, weight: f64, w: Weighing, n: usize) -> Joint
         ensures { result ≡ joined_of self weight w n }
     {
-        let samples = std::num::nearest_u64_to_f64(sequence::most(n, 1) as u64);
+        let samples = std::num::nearest_usize_to_f64(n.max(1));
         Joint {
             power: self.power + weight * w.energy / samples,
             fast: self.fast + weight * w.fast,
@@ -226,11 +222,12 @@ impl Joint {
     }
 
     // What follows the filters: the power is stored, and all is read.
+    #[tactic(auto, using(crate::proofs::Sum::some_frame), unfolding(crate::specs::Level::read_of))]
     pub fn read(self, powers: Powers) -> Read
         ensures { result ≡ read_of self powers }
     {
         let next = powers.push(self.power);
-        let means = next.means();
+        let means = Means::of(&next);
         let momentary = lufs(means.momentary);
         let short_term = lufs(means.short_term);
         let fast = lufs(self.fast);
@@ -257,24 +254,12 @@ impl Joint {
     }
 }
 
-fn no_powers() -> [f64; 300]
-    ensures { result ≡ zeros }
+// The sum, and to it at most n of the values, newest first.
+pub fn sum_newest(from: f64, xs: &[f64], n: usize) -> f64
+    ensures { result ≡ sum_of from n xs.now }
 {
-    [0.0; 300]
-}
-
-// The sum, and to it at most n of the values that v holds, newest first.
-pub fn sum_newest(from: f64, v: &[f64], count: usize, n: usize) -> f64
-    ensures { result ≡ sum_of from n count v.now }
-{
-    let mut c = sequence::least(count, v.len());
-    let oldest = c - sequence::least(c, n);
-    let mut sum = from;
-    while oldest < c {
-        c -= 1;
-        sum = sum + v[c];
-    }
-    sum
+    let latest = &xs[xs.len().saturating_sub(n)..];
+    latest.iter().rev().fold(from, |sum, x| sum + *x)
 }
 
 // The mean of n frames whose powers come to sum; there is at least one.
@@ -282,51 +267,36 @@ fn mean(sum: f64, n: usize) -> f64
     requires { 0 < n }
     ensures { result ≡ sum ⊘ whole n }
 {
-    sum / std::num::nearest_u64_to_f64(n as u64)
+    sum / std::num::nearest_usize_to_f64(n)
 }
 
 // LUFS of a weighted mean square, at the silence floor for none.
+#[tactic(auto, unfolding(crate::specs::Level::lufs_of, crate::specs::Bs1770::loudness))]
 pub fn lufs(power: f64) -> Lufs
     ensures { result ≡ lufs_of power }
 {
     if 0.0 < power {
-        return Lufs(float::max(OFFSET + 10.0 * logarithm::log10(power), SILENCE_LUFS));
+        Lufs(float::max(OFFSET + 10.0 * logarithm::log10(power), SILENCE_LUFS))
+    } else {
+        Lufs(SILENCE_LUFS)
     }
-    Lufs(SILENCE_LUFS)
 }
 
-impl Powers {
-    // No frame yet.
-    pub fn new() -> Self
-        ensures { result ≡ no_powers }
+impl Means {
+    // Of the newest 40 and 300 frames, or of all that are held; there is at least one. The sum over 40, newest first, is the beginning of that
+    // over 300.
+    fn of(powers: &Powers) -> Self
+        requires { 0 < powers.now.count }
+        ensures { result ≡ means_of powers.now }
     {
-        let list = no_powers();
-        Self { count: 0, list }
-    }
-
-    // One frame's power more; the oldest of 300 goes.
-    pub fn push(self, power: f64) -> Powers
-        ensures { result ≡ push_of self power }
-    {
-        let mut list = self.list;
-        let count = sequence::push(&mut list, self.count, power);
-        Powers { count, list }
-    }
-
-    // The mean powers of the newest 40 and 300 frames, or of all that are held; there is at least one. The sum over 40, newest first, is the
-    // beginning of that over 300.
-    fn means(self) -> Means
-        requires { 0 < self.count }
-        ensures { result ≡ means_of self }
-    {
-        let list = self.list;
-        let held = sequence::least(self.count, SHORT_TERM);
-        let recent = sequence::least(held, MOMENTARY);
-        let momentary = sum_newest(0.0, &list, held, MOMENTARY);
-        let short_term = sum_newest(momentary, &list, held - recent, SHORT_TERM - MOMENTARY);
-        Means {
+        let held = powers.held();
+        let recent = held.len().min(MOMENTARY);
+        let momentary = sum_newest(0.0, held, MOMENTARY);
+        let before = &held[..held.len() - recent];
+        let short_term = sum_newest(momentary, before, SHORT_TERM - MOMENTARY);
+        Self {
             momentary: mean(momentary, recent),
-            short_term: mean(short_term, held),
+            short_term: mean(short_term, held.len()),
         }
     }
 }
@@ -345,20 +315,20 @@ impl Level {
     }
 
     // The filters as a frame begins.
+    #[tactic(auto, unfolding(crate::specs::Level::start_of))]
     pub fn start(self) -> Weighing
         ensures { result ≡ start_of self }
     {
-        let shelf = self.shelf;
-        let high_pass = self.high_pass;
         Weighing {
-            shelf,
-            high_pass,
+            shelf: self.shelf,
+            high_pass: self.high_pass,
             fast: self.fast,
             energy: 0.0,
         }
     }
 
     // One frame: the filters over its samples, then what follows them.
+    #[tactic(auto, unfolding(crate::specs::Level::frame_of))]
     pub fn frame(self, xs: &[f32]) -> Framed
         ensures { result ≡ frame_of self xs.now }
     {
@@ -367,6 +337,7 @@ impl Level {
 }
 
 // What follows the filters over a frame of n samples.
+#[tactic(auto, unfolding(crate::specs::Level::finish_of))]
 pub fn finish(w: Weighing, powers: Powers, n: usize) -> Framed
     ensures { result ≡ finish_of w powers n }
 {
@@ -375,19 +346,14 @@ pub fn finish(w: Weighing, powers: Powers, n: usize) -> Framed
         fast: 0.0,
     };
     let read = none.join(WEIGHT, w, n).read(powers);
-    let shelf = w.shelf;
-    let high_pass = w.high_pass;
-    let stored = [shelf.z1, shelf.z2, high_pass.z1, high_pass.z2, w.fast];
-    let next = read.powers;
-    let reading = read.reading;
     Framed {
         level: Level {
-            shelf,
-            high_pass,
+            shelf: w.shelf,
+            high_pass: w.high_pass,
             fast: w.fast,
-            powers: next,
+            powers: read.powers,
         },
-        reading,
-        finite: float::all_finite(&stored) & read.finite,
+        reading: read.reading,
+        finite: w.stored_finite() & read.finite,
     }
 }

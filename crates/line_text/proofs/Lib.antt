@@ -1,4 +1,3 @@
 pub mod Putting
 pub mod Digits
 pub mod Parts
-pub mod Cast

@@ -1,9 +1,10 @@
 -- The words of a line as they are put, one after the other, and how long a line is at most.
+use Rattle.chain.specs.declared.Answer.{Answer}
+use Rattle.refusal.specs.declared.Refusal.{Refusal}
+use Rattle.std.specs.Prelude.{Result, Ok, Err}
 use Rattle.std.proofs.Common.{◌≡◌, ℕ, ◌+◌, ◌≤◌, Bool, true, false, cond, eqb, List, [], ◌∷◌, ◌++◌, length, append_assoc, arith, length-append}
 use Rattle.comis.specs.declared.mix_state.MixState.{MixState}
 use Rattle.comis.specs.declared.mix_state.MixState.TheVariants.{ReleaseToUnity, DuckToTarget, InterviewPassthrough, DuckToOvervoice}
-use Rattle.chain.specs.declared.Outcome.{Outcome}
-use Rattle.chain.specs.declared.Outcome.TheVariants as outcome
 use Rattle.program.specs.Text.{ascii}
 use Rattle.line_text.specs.Line.{decimal, line, state_name, active_name, frame_words, line_of, short_line, put_at}
 use Rattle.line_text.proofs.Digits.{decimal-length}
@@ -80,15 +81,15 @@ line-within {ws = w ∷ []} (h also p) = omega (arith, length-append w (ascii "\
 line-within {ws = w ∷ v ∷ ws} (h also p) =
     omega (arith, length-append w (ascii " " ++ line (v ∷ ws)), length-append (ascii " ") (line (v ∷ ws)), line-within p)
 
-pub line-length : (n : ℕ) (o : Outcome) → length (line_of n o) ≤ 64
+pub line-length : (n : ℕ) (o : Result Answer Refusal) → length (line_of n o) ≤ 64
 unfolding line_of
-line-length n (outcome.Passed a) =
-    let h : Within (frame_words n (outcome.Passed a)) (20 ∷ 9 ∷ 1 ∷ 1 ∷ 20 ∷ []) =
+line-length n (Ok a) =
+    let h : Within (frame_words n (Ok a)) (20 ∷ 9 ∷ 1 ∷ 1 ∷ 20 ∷ []) =
     decimal-length _ also state-length a.status.state also active-length a.key.speech_active also active-length a.bed.speech_active also decimal-length _ also all in
     omega (arith, line-within h)
-line-length n (outcome.Refused r) =
+line-length n (Err r) =
     let refused : length (ascii "refused") ≤ 7 = omega arith in
-    let h : Within (frame_words n (outcome.Refused r)) (20 ∷ 7 ∷ 20 ∷ []) = decimal-length _ also refused also decimal-length _ also all in
+    let h : Within (frame_words n (Err r)) (20 ∷ 7 ∷ 20 ∷ []) = decimal-length _ also refused also decimal-length _ also all in
     omega (arith, line-within h)
 
 at_most : (b : Bool) (xs : List ℕ) → length (cond b [] xs) ≤ length xs

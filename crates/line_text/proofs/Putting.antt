@@ -1,8 +1,9 @@
 -- Bytes put into a lent text, one run behind another.
-use Rattle.std.proofs.Common.{◌≡◌, ℕ, ◌+◌, ◌-◌, ◌≤◌, min, List, ◌++◌, length, take, sym, ap, ◌∙◌, add_assoc, arith, length-append}
+use Rattle.std.proofs.Common.{◌≡◌, ℕ, ◌+◌, ◌-◌, min, List, ◌++◌, length, take, take_all, sym, ap, ◌∙◌, add_assoc, arith, length-append, length-take-le}
 use native.Mathlib.Decide.{dec_le}
-use Rattle.blocks.specs.Lists.{Laid}
-use Rattle.blocks.proofs.Lists.{laid_append, laid-cut, finish}
+use borrow.Rule.Slice.PartMut.{put_mid}
+use Rattle.blocks.specs.Lists.{laid, Laid}
+use Rattle.blocks.proofs.Lists.{laid_append, laid-cut, laid-past, laid-part}
 use Rattle.line_text.specs.Line.{Text, put_at}
 
 -- a text, and the place after what was put into it
@@ -13,12 +14,20 @@ text t end = record { bytes = t; end = end }
 pub record Put (t : List ℕ) (at : ℕ) (xs t' : List ℕ) (end : ℕ) : Type 0 where
   pub is : text t' end ≡ put_at t at xs
 
--- all are put where the first k are: the others, if there are any, have no place
-pub placed-all : {t t' : List ℕ} {at k : ℕ} (xs : List ℕ) → Laid t at (take k xs) t' → min (length xs) (length t - at) ≤ k → Laid t at xs t'
-placed-all {t} {t'} {at} {k} xs p h = elim (dec_le (length xs) k) [
-  | yes g ↦ finish xs p g
-  | no g ↦ record { is = p.is ∙ laid-cut t at k xs (omega arith) }
-]
+-- n bytes have a place from s on, which is `at` or the end
+pub laid_there : (t xs : List ℕ) (at s n : ℕ) → s ≡ min at (length t) → n ≡ min (length xs) (length t - s) → put_mid s n t (take n xs) ≡ laid t at xs
+laid_there t xs at s n e f =
+    laid-part t (take n xs) s n (omega arith) (length-take-le n xs (omega arith))
+    ∙ elim (dec_le at (length t)) [
+      | yes g ↦ let k : s ≡ at = omega arith in ap (λ (i : ℕ). laid t i (take n xs)) k ∙ placed
+      | no g ↦ laid-past t s (take n xs) (omega arith) ∙ sym (laid-past t at xs (omega arith))
+    ]
+  where
+    placed : laid t at (take n xs) ≡ laid t at xs
+    placed = elim (dec_le (length xs) n) [
+      | yes g ↦ ap (laid t at) (take_all n xs g)
+      | no g ↦ laid-cut t at n xs (omega arith)
+    ]
 
 -- what a callee promises
 pub promised : (t : List ℕ) (at : ℕ) (xs t' : List ℕ) (end : ℕ) → text t' end ≡ put_at t at xs → Put t at xs t' end

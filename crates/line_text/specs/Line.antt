@@ -1,5 +1,6 @@
 -- What duckline writes: the line of a frame, and that of leftover bytes. Definitions only.
-use Rattle.std.specs.Prelude.{ℕ, zero, suc, ◌+◌, ◌/◌, ◌%◌, Bool, true, false, cond, List, [] as none, ◌∷◌ as ◌then◌, ◌++◌, length, ◌==◌, nat_lt, Float}
+use Rattle.refusal.specs.declared.Refusal.{Refusal}
+use Rattle.std.specs.Prelude.{ℕ, zero, suc, ◌+◌, ◌/◌, ◌%◌, Bool, true, false, cond, List, [] as none, ◌∷◌ as ◌then◌, ◌++◌, length, ◌==◌, nat_lt, Float, Result, Ok, Err}
 use Prim.Native.String.{String}
 use Rattle.std.specs.Float.{binary64}
 use Rattle.std.specs.Float.Ieee.{to_unsigned}
@@ -11,8 +12,6 @@ use Rattle.blocks.specs.Lists.{laid}
 use Rattle.comis.specs.declared.mix_state.MixState.{MixState}
 use Rattle.comis.specs.declared.mix_state.MixState.TheVariants.{ReleaseToUnity, DuckToTarget, InterviewPassthrough, DuckToOvervoice}
 use Rattle.chain.specs.declared.Answer.{Answer}
-use Rattle.chain.specs.declared.Outcome.{Outcome}
-use Rattle.chain.specs.declared.Outcome.TheVariants as outcome
 
 -- bytes of the text of 16 lines, at most 64 each
 abbrev pub text_bytes : ℕ
@@ -61,11 +60,11 @@ answer_words a =
     then none
 
 -- the words of frame n: its number, and its answer or why it was refused
-abbrev pub frame_words : ℕ → Outcome → List (List ℕ)
-frame_words n (outcome.Passed a) = decimal n then answer_words a
-frame_words n (outcome.Refused r) = decimal n then ascii "refused" then decimal (number_of r) then none
+abbrev pub frame_words : ℕ → Result Answer Refusal → List (List ℕ)
+frame_words n (Ok a) = decimal n then answer_words a
+frame_words n (Err r) = decimal n then ascii "refused" then decimal (number_of r) then none
 
-unfoldable pub line_of : ℕ → Outcome → List ℕ
+unfoldable pub line_of : ℕ → Result Answer Refusal → List ℕ
 line_of n o = line (frame_words n o)
 
 -- the line of bytes that are left over, if there are any

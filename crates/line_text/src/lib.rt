@@ -5,35 +5,23 @@ ghost use Rattle.std.specs.Prelude.{◌≡◌, ◌+◌, ◌-◌, ◌^◌, ◌≤
 ghost use Rattle.program.specs.Text.{ascii};
 ghost use Rattle.line_text.specs.Line.{decimal, line, state_name, active_name, hundredths_of, answer_words, line_of, short_line, put_at};
 
-use chain::{Answer, Outcome};
+use chain::Answer;
 use comis::mix_state::MixState;
+use refusal::Refusal;
 
 // Bytes of the lines of 16 frames: at most 64 a line.
 pub const TEXT: usize = 1024;
 
-// How many of n bytes have a place in the text from `at` on.
-fn placed(text: &[u8], at: usize, n: usize) -> usize
-    ensures { result ≡ min n (length text.now - at) }
-{
-    let places = text.len();
-    if places < at {
-        return 0;
-    }
-    sequence::least(n, places - at)
-}
-
 // Puts bytes at a place of the text, and answers the place after them. What has no place in the text is dropped. Here and below the
 // caller shows that places don't wrap.
+#[tactic(auto, using(crate::proofs::Putting::laid_there))]
 fn put(text: &mut [u8; TEXT], at: usize, bytes: &[u8]) -> usize
     requires { at + length bytes.now ≤ 2 ^ 32 }
     ensures { record { bytes = text.new; end = result } ≡ put_at text.old at bytes.now }
 {
-    let count = placed(text, at, bytes.len());
-    let mut k: usize = 0;
-    while k < count {
-        text[at + k] = bytes[k];
-        k += 1;
-    }
+    let start = at.min(TEXT);
+    let n = bytes.len().min(TEXT - start);
+    text[start..start + n].copy_from_slice(&bytes[..n]);
     at + bytes.len()
 }
 
@@ -66,23 +54,18 @@ fn put_active(text: &mut [u8; TEXT], at: usize, active: bool) -> usize
     ensures { record { bytes = text.new; end = result } ≡ put_at text.old at (ascii (active_name active) ++ ascii " ") }
 {
     if active {
-        return put(text, at, b"1 ");
+        put(text, at, b"1 ")
+    } else {
+        put(text, at, b"0 ")
     }
-    put(text, at, b"0 ")
 }
 
 // A rounded reduction, dB, in hundredths, cast as Rust's `as u64` does.
+#[tactic(auto, unfolding(crate::specs::Line::hundredths_of))]
 fn hundredths(reduction: f64) -> u64
     ensures { result ≡ hundredths_of reduction }
 {
-    let n = float::round(reduction * 100.0);
-    if n > -1.0 {
-        if n < 18446744073709551616.0 {
-            return std::num::truncating_f64_to_u64(n);
-        }
-        return u64::MAX;
-    }
-    0
+    std::num::saturating_f64_to_u64(float::round(reduction * 100.0))
 }
 
 // What follows a frame's number: at most 36 bytes.
@@ -101,13 +84,13 @@ fn put_answer(text: &mut [u8; TEXT], at: usize, a: Answer) -> usize
 }
 
 // A frame's line, at most 64 bytes.
-pub fn frame(text: &mut [u8; TEXT], at: u16, number: u64, outcome: Outcome) -> usize
+pub fn frame(text: &mut [u8; TEXT], at: u16, number: u64, outcome: Result<Answer, Refusal>) -> usize
     ensures { record { bytes = text.new; end = result } ≡ put_at text.old at (line_of number outcome) }
 {
     let middle = put_number(text, at as usize, number);
     match outcome {
-        Outcome::Passed(a) => put_answer(text, middle, a),
-        Outcome::Refused(refusal) => {
+        Ok(a) => put_answer(text, middle, a),
+        Err(refusal) => {
             let code = put(text, middle, b" refused ");
             let end = put_number(text, code, refusal::number(refusal));
             put(text, end, b"\n")
@@ -117,7 +100,8 @@ pub fn frame(text: &mut [u8; TEXT], at: u16, number: u64, outcome: Outcome) -> u
 
 // The line of leftover bytes, where there are any.
 pub fn short(text: &mut [u8; TEXT], left: usize) -> usize
-    ensures { record { bytes = text.new; end = result } ≡ put_at text.old 0 (short_line left) }
+    ensures line { record { bytes = text.new; end = result } ≡ put_at text.old 0 (short_line left) }
+    ensures room { result ≤ 64 }
 {
     if left == 0 {
         return 0;

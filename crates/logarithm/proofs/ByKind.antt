@@ -7,7 +7,7 @@ use lib.Dec.{T}
 use lib.Pow.{pow_pos}
 use borrow.Author.Tests.{eq-eqb, ne_eqb}
 use lib.Ieee.{Float, nan, inf, binary64, minus, fits}
-use Rattle.float.specs.Kind.{kind_of}
+use Rattle.float.specs.Kind.{kind_of, InRange}
 use Rattle.float.specs.declared.Parts.{Parts}
 use Rattle.float.specs.declared.Kind.TheVariants.{NotANumber, Infinite, Finite}
 use Rattle.float.proofs.Classified.{is-nan, is-infinite, is_finite}
@@ -47,8 +47,8 @@ module _ (x : Float) (p : Parts) (t : T (fits binary64 x)) (h : kind_of x ≡ Fi
         go (suc a) n = zero-lt-suc a
 
     -- what `whole_log` requires
-    pub sig_in : (0 < p.sig) × (p.sig < 2 ^ 53) × (p.exp < 2046)
-    sig_in = let w = (is_finite x p t h).parts_of in (sig-pos, w.short, w.range)
+    pub sig_in : (0 < p.sig) × InRange p
+    sig_in = let w = (is_finite x p t h).parts_of in (sig-pos, (w.short, w.range))
 
     of_some : (s : Bool) → p.negative ≡ s → cond s nan (quotient_of steps (units_log_of steps (p.sig * 2 ^ p.exp))) ≡ log2_of x
     unfolding log2_at

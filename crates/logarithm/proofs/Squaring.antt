@@ -45,20 +45,22 @@ module _ (m : ℕ) (lo : 2 ^ 30 ≤ m) (hi : m < 2 ^ 31) where
   pub next_in : (2 ^ 30 ≤ squared m / 2 ^ (squared m / 2 ^ 31)) × (squared m / 2 ^ (squared m / 2 ^ 31) < 2 ^ 31)
   next_in = subst (λ (b : ℕ). (2 ^ 30 ≤ squared m / 2 ^ b) × (squared m / 2 ^ b < 2 ^ 31)) bit_is (next.0, next.1)
 
-  -- one turn of the loop
-  pub turn : (l f g : ℕ) → 0 < l → f * 2 ^ l + fraction_of l m ≡ g
-      → (f * 2 + squared m / 2 ^ 31) * 2 ^ (l - 1) + fraction_of (l - 1) (squared m / 2 ^ (squared m / 2 ^ 31)) ≡ g
+  bits : (l f g : ℕ) → f * 2 ^ suc l + fraction_of (suc l) m ≡ g
+      → (f * 2 + squared m / 2 ^ 31) * 2 ^ l + fraction_of l (squared m / 2 ^ (squared m / 2 ^ 31)) ≡ g
   unfolding fraction_of
-  turn zero f g p e = absurd (omega arith)
-  turn (suc l) f g p e =
-      subst (λ (b : ℕ). (f * 2 + b) * 2 ^ (suc l - 1) + fraction_of (suc l - 1) (squared m / 2 ^ b) ≡ g) bit_is
-      (rw (less l) (sums f (2 ^ l) (bit_of (squared m)) (fraction_of l (squared m / 2 ^ bit_of (squared m))) (2 ^ suc l) (pow-succ' 2 l) ∙ e))
+  bits l f g e =
+      subst (λ (b : ℕ). (f * 2 + b) * 2 ^ l + fraction_of l (squared m / 2 ^ b) ≡ g) bit_is
+      (sums f (2 ^ l) (bit_of (squared m)) (fraction_of l (squared m / 2 ^ bit_of (squared m))) (2 ^ suc l) (pow-succ' 2 l) ∙ e)
     where
-      less : (l : ℕ) → suc l - 1 ≡ l
-      less l = omega arith
-
       sums : (f p b r w : ℕ) → w ≡ 2 * p → (f * 2 + b) * p + r ≡ f * w + (b * p + r)
       sums f p b r w e = omega (arith, ap (λ (x : ℕ). f * x) e)
+
+  -- one turn of the loop, after i turns of k
+  pub turn : (k i f g : ℕ) → i < k → f * 2 ^ (k - i) + fraction_of (k - i) m ≡ g
+      → (f * 2 + squared m / 2 ^ 31) * 2 ^ (k - (i + 1)) + fraction_of (k - (i + 1)) (squared m / 2 ^ (squared m / 2 ^ 31)) ≡ g
+  turn k i f g h e =
+      let left : k - i ≡ suc (k - (i + 1)) = omega arith in
+      bits (k - (i + 1)) f g (subst (λ (l : ℕ). f * 2 ^ l + fraction_of l m ≡ g) left e)
 
 pub done : (l f m g : ℕ) → l ≤ 0 → f * 2 ^ l + fraction_of l m ≡ g → f ≡ g
 unfolding fraction_of

@@ -2,10 +2,11 @@
 #![tactic(auto)]
 
 ghost use Rattle.std.specs.Prelude.{◌≡◌, ◌+◌, ◌*◌, ◌^◌, ◌≤◌, ◌<◌};
+ghost use Rattle.float.specs.Kind.{InRange};
 ghost use Rattle.std.specs.Float.Ieee.{minus};
 ghost use Rattle.logarithm.specs.Logarithm.{steps, fraction_of, whole_log_of, quotient_of, log2_of, log10_of};
 
-use float::Kind;
+use float::{Kind, Parts};
 
 // How many bits of the logarithm follow the point.
 const STEPS: u64 = 24;
@@ -28,25 +29,23 @@ fn fraction(m: u64) -> u64
 {
     let mut s = m;
     let mut f = 0u64;
-    let mut left = STEPS;
-    while left > 0 {
+    for _ in 0..STEPS {
         let q = (s * s) >> 30;
         let bit = q >> 31;
         f = f * 2 + bit;
         s = q >> bit;
-        left -= 1;
     }
     f
 }
 
-// N of the whole number sig * 2^exp. The leading digit of sig is brought to the top of the word, and 31 digits are kept. `log2` shows the bounds.
-fn whole_log(sig: u64, exp: u64) -> u64
-    requires { (0 < sig) × (sig < 2 ^ 53) × (exp < 2046) }
-    ensures { (result ≡ whole_log_of steps (sig * 2 ^ exp)) × (result < 2 ^ (12 + steps)) }
+// N of the whole number p.sig * 2^p.exp. The leading digit of sig is brought to the top of the word, and 31 digits are kept. `log2` shows the bounds.
+fn whole_log(p: Parts) -> u64
+    requires { (0 < p.sig) × InRange p }
+    ensures { (result ≡ whole_log_of steps (p.sig * 2 ^ p.exp)) × (result < 2 ^ (12 + steps)) }
 {
-    let zeros = u64::leading_zeros(sig);
-    let m = (sig << zeros) >> 33;
-    let place = 63 - zeros as u64 + exp;
+    let zeros = p.sig.leading_zeros();
+    let m = (p.sig << zeros) >> 33;
+    let place = 63 - u64::from(zeros) + p.exp;
     place * SCALE + fraction(m)
 }
 
@@ -56,37 +55,33 @@ fn quotient(n: u64) -> f64
     ensures { result ≡ quotient_of steps (minus n (1074 * 2 ^ steps)) }
 {
     if n >= LEAST {
-        return (n - LEAST) as f64 / DIVISOR;
+        (n - LEAST) as f64 / DIVISOR
+    } else {
+        (LEAST - n) as f64 / -DIVISOR
     }
-    (LEAST - n) as f64 / -DIVISOR
 }
 
 // The logarithm of x to base 2, to 24 bits after the point: minus infinity of a zero, a NaN of a negative number.
 pub fn log2(x: f64) -> f64
     ensures { result ≡ log2_of x }
 {
-    let kind = float::classify(x);
-    match kind {
+    match float::classify(x) {
         Kind::NotANumber => x,
-        Kind::Infinite(negative) => {
-            if negative {
-                return 0.0 / 0.0;
-            }
-            x
-        }
+        Kind::Infinite(negative) => { if negative { f64::NAN } else { x } }
         Kind::Finite(p) => {
             if p.sig == 0 {
-                return -1.0 / 0.0;
+                f64::NEG_INFINITY
+            } else if p.negative {
+                f64::NAN
+            } else {
+                quotient(whole_log(p))
             }
-            if p.negative {
-                return 0.0 / 0.0;
-            }
-            quotient(whole_log(p.sig, p.exp))
         }
     }
 }
 
 // The logarithm of x to base 10: that to base 2, times log10 2.
+#[tactic(auto, unfolding(crate::specs::Logarithm::log10_of))]
 pub fn log10(x: f64) -> f64
     ensures { result ≡ log10_of x }
 {

@@ -1,13 +1,14 @@
 // An f64 to the nearest f32, at a tie to the even one, by integers alone.
 #![tactic(auto)]
 
-ghost use Rattle.std.specs.Prelude.{◌≡◌, cond, ◌+◌, ◌*◌, ◌^◌, ◌≤◌, ◌<◌, min};
+ghost use Rattle.std.specs.Prelude.{◌≡◌, cond, ◌+◌, ◌*◌, ◌^◌, ◌≤◌, ◌<◌};
 ghost use Rattle.std.specs.Float.{binary32};
 ghost use Rattle.std.specs.Float.Ieee.{of_bits};
 ghost use Rattle.std.specs.Float.Ieee.Nearest.{closest};
+ghost use Rattle.float.specs.Kind.{InRange};
 ghost use Rattle.narrow.specs.Narrow.{narrow_bits, narrow_of};
 
-use float::Kind;
+use float::{Kind, Parts};
 
 const SIGN: u64 = 2147483648; // 2^31
 
@@ -25,27 +26,20 @@ fn nearest_shift(sig: u64, d: u64) -> u64
     (sig + (half - 1) + odd) >> d
 }
 
-// The bits n, but no more than those of an infinity.
-fn capped(n: u64) -> u64
-    ensures { result ≡ min n (255 * 2 ^ 23) }
-{
-    if n < INFINITE { n } else { INFINITE }
-}
-
-// The f32's bits below the sign, for sig * 2^exp units of 2^-1074. `narrow` shows the bounds.
+// The f32's bits below the sign, for p.sig * 2^p.exp units of 2^-1074: at most those of an infinity. `narrow` shows the bounds.
 #[tactic(auto, using(crate::proofs::Rounded::no_bits))]
-fn narrow_bits(sig: u64, exp: u64) -> u64
-    requires { (sig < 2 ^ 53) × (exp < 2046) }
-    ensures { result ≡ narrow_bits sig exp }
+fn narrow_bits(p: Parts) -> u64
+    requires { InRange p }
+    ensures { result ≡ narrow_bits p.sig p.exp }
 {
-    if exp >= 896 {
-        return capped((exp - 896) * HIDDEN + nearest_shift(sig, 29));
+    if p.exp >= 896 {
+        return ((p.exp - 896) * HIDDEN + nearest_shift(p.sig, 29)).min(INFINITE);
     }
-    let d = 925 - exp;
+    let d = 925 - p.exp;
     if d >= 64 {
         return 0;
     }
-    nearest_shift(sig, d)
+    nearest_shift(p.sig, d)
 }
 
 // The f32 with this sign and the bits n below it. `narrow` shows the bound.
@@ -54,9 +48,10 @@ fn signed(negative: bool, n: u64) -> f32
     ensures { result ≡ of_bits binary32 (cond negative (2 ^ 31) 0 + n) }
 {
     if negative {
-        return f32::from_bits((SIGN + n) as u32);
+        f32::from_bits((SIGN + n) as u32)
+    } else {
+        f32::from_bits(n as u32)
     }
-    f32::from_bits(n as u32)
 }
 
 // The f32 nearest to x.
@@ -64,8 +59,8 @@ pub fn narrow(x: f64) -> f32
     ensures { result ≡ narrow_of x }
 {
     match float::classify(x) {
-        Kind::NotANumber => 0.0f32 / 0.0f32,
+        Kind::NotANumber => f32::NAN,
         Kind::Infinite(negative) => signed(negative, INFINITE),
-        Kind::Finite(p) => signed(p.negative, narrow_bits(p.sig, p.exp)),
+        Kind::Finite(p) => signed(p.negative, narrow_bits(p)),
     }
 }

@@ -1,14 +1,14 @@
-// The filters of both strands side by side: the level's and the detector's, of the key and of the bed, over a frame.
+// The filters of both strands side by side: the level's and the detector's, of the key and of the bed, over a frame. In a `Pair` the key's is the
+// first, the bed's the second.
 #![tactic(auto)]
 
-ghost use Rattle.std.specs.Prelude.{◌≡◌, length};
-ghost use Rattle.level.specs.Bs1770.{frame_length};
+ghost use Rattle.std.specs.Prelude.{◌≡◌};
 ghost use Rattle.detector.specs.Filters.{outputs_of};
-ghost use Rattle.paired_filters.specs.Pairs.{weighed_of, beside_of, banded_of, states_of, number_at, state_at, weighed_pairs, weighing_at, banded_pairs, bands_at, filtered_of};
+ghost use Rattle.paired_filters.specs.Pairs.{place_of, weighing_at, banded_pairs, banded_at, bands_at, weighed_of, beside_of, banded_of, filtered_of};
 
-use biquad::State;
 use detector::{Bands, Filters};
 use level::{FRAME, Weighing};
+use pairs::{Pair, Place, States, WeighedPairs};
 
 // One of a chain's two strands.
 #[derive(Clone, Copy)]
@@ -17,61 +17,16 @@ pub enum Side {
     Bed,
 }
 
-// The level's filters of both strands.
-#[derive(Clone, Copy)]
-pub struct Weighed {
-    pub key: Weighing,
-    pub bed: Weighing,
-}
-
-// A strand's filters whose shelf rests, and those of the other strand.
-#[derive(Clone, Copy)]
-struct Beside {
-    held: Weighing,
-    other: Weighing,
-}
-
-// The detector's filters of both strands.
-#[derive(Clone, Copy)]
-pub struct Banded {
-    pub key: Bands,
-    pub bed: Bands,
-}
-
-// A number of each strand.
-#[derive(Clone, Copy)]
-pub struct Pair {
-    pub key: f64,
-    pub bed: f64,
-}
-
-// One section's state of both strands.
-#[derive(Clone, Copy)]
-pub struct States {
-    pub z1: Pair,
-    pub z2: Pair,
-}
-
-// What `Weighed` holds, the strands' numbers side by side. Where a loop's results lie so in memory, the compiler computes both strands with one
-// instruction; where each strand's numbers lie together, it joins the numbers of different sections instead.
-#[derive(Clone, Copy)]
-pub struct WeighedPairs {
-    pub shelf: States,
-    pub high_pass: States,
-    pub fast: Pair,
-    pub energy: Pair,
-}
-
-// What `Banded` holds, likewise.
+// The detector's filters of both strands, their numbers side by side.
 #[derive(Clone, Copy)]
 pub struct BandedPairs {
     pub high_pass: States,
     pub low_pass: States,
     pub pitch1: States,
     pub pitch2: States,
-    pub full: Pair,
-    pub band: Pair,
-    pub pitch: Pair,
+    pub full: Pair<f64>,
+    pub band: Pair<f64>,
+    pub pitch: Pair<f64>,
 }
 
 // The filters of both kinds after a frame.
@@ -81,213 +36,146 @@ pub struct Filtered {
     pub banded: BandedPairs,
 }
 
-// A section's state of both strands.
-fn joined(key: State, bed: State) -> States
-    ensures { result ≡ states_of key bed }
-{
-    States {
-        z1: Pair {
-            key: key.z1,
-            bed: bed.z1,
-        },
-        z2: Pair {
-            key: key.z2,
-            bed: bed.z2,
-        },
-    }
-}
-
-impl States {
-    // One strand's state.
-    fn strand(self, side: Side) -> State
-        ensures { result ≡ state_at self side }
+impl Side {
+    // Where this strand's numbers stand in a pair.
+    fn place(self) -> Place
+        ensures { result ≡ place_of self }
     {
-        State {
-            z1: self.z1.strand(side),
-            z2: self.z2.strand(side),
+        match self {
+            Side::Key => Place::First,
+            Side::Bed => Place::Second,
         }
     }
-}
 
-impl Pair {
-    // One strand's number.
-    fn strand(self, side: Side) -> f64
-        ensures { result ≡ number_at self side }
+    // This strand's filters of the level.
+    pub fn weighing(self, weighed: WeighedPairs) -> Weighing
+        ensures { result ≡ weighing_at weighed self }
     {
-        match side {
-            Side::Key => self.key,
-            Side::Bed => self.bed,
-        }
+        weighed.at(self.place())
     }
-}
 
-impl Weighed {
-    // The strands' numbers side by side.
-    fn pairs(self) -> WeighedPairs
-        ensures { result ≡ weighed_pairs self }
+    // This strand's filters of the detector.
+    pub fn bands(self, banded: BandedPairs) -> Bands
+        ensures { result ≡ bands_at banded self }
     {
-        WeighedPairs {
-            shelf: joined(self.key.shelf, self.bed.shelf),
-            high_pass: joined(self.key.high_pass, self.bed.high_pass),
-            fast: Pair {
-                key: self.key.fast,
-                bed: self.bed.fast,
-            },
-            energy: Pair {
-                key: self.key.energy,
-                bed: self.bed.energy,
-            },
-        }
-    }
-}
-
-impl WeighedPairs {
-    // One strand's filters.
-    pub fn strand(self, side: Side) -> Weighing
-        ensures { result ≡ weighing_at self side }
-    {
-        Weighing {
-            shelf: self.shelf.strand(side),
-            high_pass: self.high_pass.strand(side),
-            fast: self.fast.strand(side),
-            energy: self.energy.strand(side),
-        }
-    }
-}
-
-impl Banded {
-    // The strands' numbers side by side.
-    fn pairs(self) -> BandedPairs
-        ensures { result ≡ banded_pairs self }
-    {
-        let k = self.key.filters;
-        let b = self.bed.filters;
-        BandedPairs {
-            high_pass: joined(k.high_pass, b.high_pass),
-            low_pass: joined(k.low_pass, b.low_pass),
-            pitch1: joined(k.pitch1, b.pitch1),
-            pitch2: joined(k.pitch2, b.pitch2),
-            full: Pair {
-                key: self.key.full,
-                bed: self.bed.full,
-            },
-            band: Pair {
-                key: self.key.band,
-                bed: self.bed.band,
-            },
-            pitch: Pair {
-                key: self.key.pitch,
-                bed: self.bed.pitch,
-            },
-        }
+        banded.at(self.place())
     }
 }
 
 impl BandedPairs {
-    // One strand's filters.
-    pub fn strand(self, side: Side) -> Bands
-        ensures { result ≡ bands_at self side }
+    // Both strands' filters side by side.
+    fn of(key: Bands, bed: Bands) -> Self
+        ensures { result ≡ banded_pairs key bed }
+    {
+        let k = key.filters;
+        let b = bed.filters;
+        Self {
+            high_pass: States::of(k.high_pass, b.high_pass),
+            low_pass: States::of(k.low_pass, b.low_pass),
+            pitch1: States::of(k.pitch1, b.pitch1),
+            pitch2: States::of(k.pitch2, b.pitch2),
+            full: Pair {
+                first: key.full,
+                second: bed.full,
+            },
+            band: Pair {
+                first: key.band,
+                second: bed.band,
+            },
+            pitch: Pair {
+                first: key.pitch,
+                second: bed.pitch,
+            },
+        }
+    }
+
+    // One of the two.
+    fn at(self, place: Place) -> Bands
+        ensures { result ≡ banded_at self place }
     {
         Bands {
             filters: Filters {
-                high_pass: self.high_pass.strand(side),
-                low_pass: self.low_pass.strand(side),
-                pitch1: self.pitch1.strand(side),
-                pitch2: self.pitch2.strand(side),
+                high_pass: self.high_pass.at(place),
+                low_pass: self.low_pass.at(place),
+                pitch1: self.pitch1.at(place),
+                pitch2: self.pitch2.at(place),
             },
-            full: self.full.strand(side),
-            band: self.band.strand(side),
-            pitch: self.pitch.strand(side),
+            full: self.full.at(place),
+            band: self.band.at(place),
+            pitch: self.pitch.at(place),
         }
     }
 }
 
-// The level's filters over a frame, both strands in one loop, so that their steps go side by side. `weigh_frame` shows the lengths.
-fn weigh(key: Weighing, bed: Weighing, xs: &[f64], ys: &[f64]) -> WeighedPairs
-    requires { (length xs.now ≡ frame_length) × (length ys.now ≡ frame_length) }
-    ensures { result ≡ weighed_pairs (weighed_of key bed xs.now ys.now) }
+// The level's filters over a frame, both strands in one loop, so that their steps go side by side.
+fn weigh(key: Weighing, bed: Weighing, xs: &[f64; FRAME], ys: &[f64; FRAME]) -> WeighedPairs
+    ensures { result ≡ weighed_of key bed xs.now ys.now }
 {
     let mut k = key;
     let mut b = bed;
-    let mut i = 0;
-    while i < FRAME {
+    for i in 0..FRAME {
         k = k.step(xs[i]);
         b = b.step(ys[i]);
-        i += 1;
     }
-    let w = Weighed { key: k, bed: b };
-    w.pairs()
+    WeighedPairs::of(k, b)
 }
 
-// The level's filters of a strand whose shelf's output is v throughout, and beside them those of the other strand. `weigh_frame` shows the
-// lengths.
-fn weigh_beside(v: f64, held: Weighing, other: Weighing, xs: &[f64], ys: &[f64]) -> Beside
-    requires { (length xs.now ≡ frame_length) × (length ys.now ≡ frame_length) }
-    ensures { result ≡ beside_of v held other xs.now ys.now }
+// The level's filters of a strand whose shelf's output is v throughout, and beside them those of the other strand, whose samples are ys.
+fn weigh_beside(v: f64, held: Weighing, other: Weighing, ys: &[f64; FRAME]) -> Pair<Weighing>
+    ensures { result ≡ beside_of v held other ys.now }
 {
-    let mut h = held;
-    let mut o = other;
-    let mut i = 0;
-    while i < FRAME {
-        h = h.held_step(v);
-        o = o.step(ys[i]);
-        i += 1;
+    let mut first = held;
+    let mut second = other;
+    for y in ys {
+        first = first.held_step(v);
+        second = second.step(*y);
     }
-    Beside { held: h, other: o }
+    Pair { first, second }
 }
 
 // The level's filters over a frame. In silence a shelf's numbers end below the smallest normal number, where the processor is slow, and stay:
 // then they aren't computed.
 fn weigh_frame(key: Weighing, bed: Weighing, xs: &[f64; FRAME], ys: &[f64; FRAME]) -> WeighedPairs
-    ensures { result ≡ weighed_pairs (weighed_of key bed xs.now ys.now) }
+    ensures { result ≡ weighed_of key bed xs.now ys.now }
 {
     let x = xs[0];
     let y = ys[0];
     if key.rests(x, xs) {
-        let s = weigh_beside(key.shelf_output(x), key, bed, xs, ys);
-        let k = s.held;
-        let b = s.other;
-        let w = Weighed { key: k, bed: b };
-        return w.pairs();
+        let s = weigh_beside(key.shelf_output(x), key, bed, ys);
+        return WeighedPairs::of(s.first, s.second);
     }
     if bed.rests(y, ys) {
-        let s = weigh_beside(bed.shelf_output(y), bed, key, ys, xs);
-        let k = s.other;
-        let b = s.held;
-        let w = Weighed { key: k, bed: b };
-        return w.pairs();
+        let s = weigh_beside(bed.shelf_output(y), bed, key, xs);
+        return WeighedPairs::of(s.second, s.first);
     }
     weigh(key, bed, xs, ys)
 }
 
-// The detector's filters likewise; the outputs of each strand's pitch filter go to `key_pitch` and `bed_pitch`. `band_frame` shows the lengths.
+// The detector's filters likewise; the outputs of each strand's pitch filter go to `key_pitch` and `bed_pitch`.
 fn band(
     key: Bands,
     bed: Bands,
-    xs: &[f64],
-    ys: &[f64],
-    key_pitch: &mut [f64],
-    bed_pitch: &mut [f64],
+    xs: &[f64; FRAME],
+    ys: &[f64; FRAME],
+    key_pitch: &mut [f64; FRAME],
+    bed_pitch: &mut [f64; FRAME],
 ) -> BandedPairs
-    requires { (length xs.now ≡ frame_length) × (length ys.now ≡ frame_length) × (length key_pitch.old ≡ frame_length) × (length bed_pitch.old ≡ frame_length) }
-    ensures { (result ≡ banded_pairs (banded_of key bed xs.now ys.now)) × (key_pitch.new ≡ outputs_of key xs.now)
+    ensures { (result ≡ banded_of key bed xs.now ys.now) × (key_pitch.new ≡ outputs_of key xs.now)
         × (bed_pitch.new ≡ outputs_of bed ys.now) }
 {
     let mut k = key;
     let mut b = bed;
-    let mut i = 0;
-    while i < FRAME {
+    for i in 0..FRAME {
         k = k.step(xs[i]);
         b = b.step(ys[i]);
         key_pitch[i] = k.pitch;
         bed_pitch[i] = b.pitch;
-        i += 1;
     }
-    let f = Banded { key: k, bed: b };
-    f.pairs()
+    BandedPairs::of(k, b)
 }
 
 // The detector's filters over a frame. Where a strand is in silence, each strand goes by itself.
+#[tactic(auto, unfolding(crate::specs::Pairs::banded_of, detector::specs::Filters::run_of))]
 fn band_frame(
     key: Bands,
     bed: Bands,
@@ -296,37 +184,34 @@ fn band_frame(
     key_pitch: &mut [f64; FRAME],
     bed_pitch: &mut [f64; FRAME],
 ) -> BandedPairs
-    ensures { (result ≡ banded_pairs (banded_of key bed xs.now ys.now)) × (key_pitch.new ≡ outputs_of key xs.now)
+    ensures { (result ≡ banded_of key bed xs.now ys.now) × (key_pitch.new ≡ outputs_of key xs.now)
         × (bed_pitch.new ≡ outputs_of bed ys.now) }
 {
     if key.quiet(xs[0], xs) | bed.quiet(ys[0], ys) {
         let k = key.alone(xs, key_pitch);
         let b = bed.alone(ys, bed_pitch);
-        let f = Banded { key: k, bed: b };
-        return f.pairs();
+        return BandedPairs::of(k, b);
     }
     band(key, bed, xs, ys, key_pitch, bed_pitch)
 }
 
-// The level's and the detector's filters in one loop: neither waits for the other. `filter_frame` shows the lengths.
+// The level's and the detector's filters in one loop: neither waits for the other.
 fn filter(
-    weighed: Weighed,
-    banded: Banded,
-    xs: &[f64],
-    ys: &[f64],
-    key_pitch: &mut [f64],
-    bed_pitch: &mut [f64],
+    weighed: Pair<Weighing>,
+    banded: Pair<Bands>,
+    xs: &[f64; FRAME],
+    ys: &[f64; FRAME],
+    key_pitch: &mut [f64; FRAME],
+    bed_pitch: &mut [f64; FRAME],
 ) -> Filtered
-    requires { (length xs.now ≡ frame_length) × (length ys.now ≡ frame_length) × (length key_pitch.old ≡ frame_length) × (length bed_pitch.old ≡ frame_length) }
-    ensures { (result ≡ filtered_of weighed banded xs.now ys.now) × (key_pitch.new ≡ outputs_of banded.key xs.now)
-        × (bed_pitch.new ≡ outputs_of banded.bed ys.now) }
+    ensures { (result ≡ filtered_of weighed banded xs.now ys.now) × (key_pitch.new ≡ outputs_of banded.first xs.now)
+        × (bed_pitch.new ≡ outputs_of banded.second ys.now) }
 {
-    let mut v = weighed.key;
-    let mut w = weighed.bed;
-    let mut p = banded.key;
-    let mut q = banded.bed;
-    let mut i = 0;
-    while i < FRAME {
+    let mut v = weighed.first;
+    let mut w = weighed.second;
+    let mut p = banded.first;
+    let mut q = banded.second;
+    for i in 0..FRAME {
         let x = xs[i];
         let y = ys[i];
         v = v.step(x);
@@ -335,33 +220,32 @@ fn filter(
         q = q.step(y);
         key_pitch[i] = p.pitch;
         bed_pitch[i] = q.pitch;
-        i += 1;
     }
-    let l = Weighed { key: v, bed: w };
-    let f = Banded { key: p, bed: q };
     Filtered {
-        weighed: l.pairs(),
-        banded: f.pairs(),
+        weighed: WeighedPairs::of(v, w),
+        banded: BandedPairs::of(p, q),
     }
 }
 
 // All filters over a frame: xs are the key's samples, ys the bed's. The outputs of each strand's pitch filter go to `key_pitch` and `bed_pitch`.
-// Where a strand's samples are all the same, its filters may be at rest.
+// Where a strand's samples are all the same, its filters may be at rest. Samples and outputs are parameters of their own, and no `Pair`: it would be
+// one of references, made in one place and taken apart in each function.
+#[tactic(auto, unfolding(crate::specs::Pairs::filtered_of))]
 pub fn filter_frame(
-    weighed: Weighed,
-    banded: Banded,
+    weighed: Pair<Weighing>,
+    banded: Pair<Bands>,
     xs: &[f64; FRAME],
     ys: &[f64; FRAME],
     key_pitch: &mut [f64; FRAME],
     bed_pitch: &mut [f64; FRAME],
 ) -> Filtered
-    ensures { (result ≡ filtered_of weighed banded xs.now ys.now) × (key_pitch.new ≡ outputs_of banded.key xs.now)
-        × (bed_pitch.new ≡ outputs_of banded.bed ys.now) }
+    ensures { (result ≡ filtered_of weighed banded xs.now ys.now) × (key_pitch.new ≡ outputs_of banded.first xs.now)
+        × (bed_pitch.new ≡ outputs_of banded.second ys.now) }
 {
     if float::all_same(xs[0], xs) | float::all_same(ys[0], ys) {
         return Filtered {
-            weighed: weigh_frame(weighed.key, weighed.bed, xs, ys),
-            banded: band_frame(banded.key, banded.bed, xs, ys, key_pitch, bed_pitch),
+            weighed: weigh_frame(weighed.first, weighed.second, xs, ys),
+            banded: band_frame(banded.first, banded.second, xs, ys, key_pitch, bed_pitch),
         };
     }
     filter(weighed, banded, xs, ys, key_pitch, bed_pitch)

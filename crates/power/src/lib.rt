@@ -32,6 +32,7 @@ const ROOTS: [u64; 24] = [
 ];
 
 // The roots for the bits of a fraction, the half's first. An index into the constant itself would lay out the whole table each time.
+#[tactic(auto, unfolding(crate::specs::Roots::roots))]
 fn all_roots() -> [u64; 24]
     ensures { result ≡ roots }
 {
@@ -45,12 +46,9 @@ fn fraction(f: u64) -> u64
 {
     let table = all_roots();
     let mut m = ONE;
-    let mut i = 0usize;
-    while i < 24 {
+    for (i, &root) in table.iter().enumerate() {
         let bit = (f >> (23 - i)) % 2;
-        let root = table[i];
         m = m * (ONE + bit * (root - ONE)) / ONE;
-        i += 1;
     }
     m
 }
@@ -70,10 +68,7 @@ fn shifted(sig: u64, s: u64) -> u64
     requires { sig < 2 ^ 53 }
     ensures { result ≡ sig / 2 ^ s }
 {
-    if s >= 53 {
-        return 0;
-    }
-    sig >> s
+    if s < 53 { sig >> s } else { 0 }
 }
 
 // floor(y * 2^24) + 1,000 * 2^24 for a y of at most 1,000 in size: y * 2^24 is sig / 2^(1050 - exp). `exp2` shows the bounds.
@@ -105,7 +100,8 @@ pub fn exp2(y: f64) -> f64
     }
 }
 
-// e^x.
+// e^x. This and the two below differ in a constant alone, but a const parameter can't be a float.
+#[tactic(auto, unfolding(crate::specs::Power::exp_of))]
 pub fn exp(x: f64) -> f64
     ensures { result ≡ exp_of x }
 {
@@ -113,6 +109,7 @@ pub fn exp(x: f64) -> f64
 }
 
 // 10^u.
+#[tactic(auto, unfolding(crate::specs::Power::exp10_of))]
 pub fn exp10(u: f64) -> f64
     ensures { result ≡ exp10_of u }
 {
@@ -120,6 +117,7 @@ pub fn exp10(u: f64) -> f64
 }
 
 // 60^u.
+#[tactic(auto, unfolding(crate::specs::Power::exp60_of))]
 pub fn exp60(u: f64) -> f64
     ensures { result ≡ exp60_of u }
 {

@@ -1,3 +1,2 @@
 pub mod Text
 pub mod Arguments
-pub mod Input

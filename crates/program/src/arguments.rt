@@ -25,13 +25,9 @@ pub enum Request {
 
 // How many words a program was started with, its own name among them.
 pub fn count(env: &impl Env) -> usize {
-    let mut start = [0u8; 1];
-    for i in 0..usize::MAX {
-        if let Err(FillError::NotPresent) = env.arg(i, &mut start) {
-            return i;
-        }
-    }
-    usize::MAX
+    (0..usize::MAX)
+        .take_while(|i| !matches!(env.arg(*i, &mut [0u8; 1]), Err(FillError::NotPresent)))
+        .count()
 }
 
 // Puts argument i at the start of `word`, and answers how many bytes it has there: 0 where there is none, and of one that is too long as many as
@@ -47,36 +43,31 @@ pub fn get(env: &impl Env, i: usize, word: &mut [u8]) -> usize
 }
 
 // What the option asks for that is the first of `count` words, the program's name among them.
+#[tactic(auto, unfolding(crate::specs::Arguments::option_of))]
 fn option(count: usize) -> Request
     ensures { result ≡ option_of count }
 {
-    if count < 3 {
-        return Request::OptionAlone;
+    match count {
+        0..3 => Request::OptionAlone,
+        3 => Request::Option,
+        _ => Request::OptionAndMore,
     }
-    if count < 4 {
-        return Request::Option;
-    }
-    Request::OptionAndMore
 }
 
 // What a program is asked for that was started with `count` words, its own name among them; `first` is the one behind its name, and `name` that of
 // its option.
+#[tactic(auto, unfolding(crate::specs::Arguments::request_of))]
 pub fn asked(count: usize, first: &[u8], name: &[u8]) -> Request
     ensures { result ≡ request_of count first.now name.now }
 {
     if count < 2 {
         return Request::Run;
     }
-    if blocks::same(first, b"--help") {
-        return Request::Help;
+    match first {
+        b"--help" | b"-h" => Request::Help,
+        _ if first == name => option(count),
+        _ => Request::Unknown,
     }
-    if blocks::same(first, b"-h") {
-        return Request::Help;
-    }
-    if blocks::same(first, name) {
-        return option(count);
-    }
-    Request::Unknown
 }
 
 // Says what is wrong with a word, behind the program's name: on standard error, which is `errors`. What can't be written is let go.

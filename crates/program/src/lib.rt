@@ -1,4 +1,4 @@
-// What the programs share: what their arguments ask for, reads of standard input, writes of standard output, and what is said where one fails.
+// What the programs share: what their arguments ask for, reads of standard input, and what is said where a read or a write fails.
 #![tactic(auto)]
 
 pub mod arguments;

@@ -7,10 +7,8 @@ const REASON: usize = 128;
 
 // An error's text up to the system's number for it, where it has one.
 fn words(text: &str) -> &str {
-    match text.split_once(" (os error ") {
-        Some((words, _)) => words,
-        None => text,
-    }
+    text.split_once(" (os error ")
+        .map_or(text, |(words, _)| words)
 }
 
 // Writes what failed, a colon, why, and a line end. What can't be written is let go.

@@ -1,9 +1,8 @@
 -- What is shown of a frame: the Rust's `RatioStatus`, each operation rounded in its order. Definitions only.
 use Rattle.std.specs.Prelude.{◌&&◌, cond, Float}
-use Rattle.std.specs.Float.{binary64}
 use Rattle.std.specs.Float.Ieee.{lt}
-use Rattle.float.specs.Whole.{round_of}
-use Rattle.float.specs.Arithmetic.{◌⊕◌, ◌⊖◌, ◌⊗◌, ◌⊘◌, zero64, ten64, hundred64}
+use Rattle.float.specs.Whole.{round_to}
+use Rattle.float.specs.Arithmetic.{◌⊕◌, ◌⊖◌, zero64, ten64, hundred64}
 use Rattle.float.specs.declared.Lufs.{Lufs}
 use Rattle.float.specs.declared.Db.{Db}
 use Rattle.comis.specs.declared.Shown.{Shown}
@@ -20,11 +19,11 @@ use Rattle.ratio.specs.declared.RatioStatus.{RatioStatus}
 
 -- to 0.1
 abbrev pub tenths : Float → Float
-tenths x = round_of binary64 (x ⊗ ten64) ⊘ ten64
+tenths x = round_to x ten64
 
 -- to 0.01; + 0 makes negative zero zero
 unfoldable pub rounded_of : Float → Float
-rounded_of x = round_of binary64 (x ⊗ hundred64) ⊘ hundred64 ⊕ zero64
+rounded_of x = round_to x hundred64 ⊕ zero64
 
 unfoldable pub reading_of : Lufs → Shown
 reading_of l = cond (lt silence_lufs l.0) (Level (tenths l.0)) Silence

@@ -60,6 +60,7 @@ pub struct RatioStatus {
 }
 
 // A frame's answer, the loops after it, and whether all that it stores, answers or hands to a power is finite.
+// The flag stands beside the answer, and no Result: refusal 4 is tested after the other strand's work, and the answer is promised until then.
 #[derive(Clone, Copy)]
 pub struct Framed {
     pub reduction: Db,
@@ -69,47 +70,52 @@ pub struct Framed {
 }
 
 // A loudness as it is shown: to 0.1 LUFS, or silence.
+#[tactic(auto, unfolding(crate::specs::Status::reading_of))]
 fn reading(l: Lufs) -> Shown
     ensures { result ≡ reading_of l }
 {
     if l.0 > SILENCE_LUFS {
-        return Shown::Level(float::round(l.0 * 10.0) / 10.0);
+        Shown::Level(float::round_to(l.0, 10.0))
+    } else {
+        Shown::Silence
     }
-    Shown::Silence
 }
 
 // To 0.01, dB or LU. Negative zero becomes zero.
+#[tactic(auto, unfolding(crate::specs::Status::rounded_of))]
 fn round(x: f64) -> f64
     ensures { result ≡ rounded_of x }
 {
-    float::round(x * 100.0) / 100.0 + 0.0
+    float::round_to(x, 100.0) + 0.0
 }
 
 // The dialogue's loudness over the ducked bed's: to 0.01, then to 0.1 LU.
+#[tactic(auto, unfolding(crate::specs::Status::ratio_shown))]
 fn ratio_shown(dialogue: Lufs, bed: Lufs, reduction: Db) -> Shown
     ensures { result ≡ ratio_shown dialogue bed reduction }
 {
-    if (dialogue.0 > SILENCE_LUFS) & (bed.0 > SILENCE_LUFS) {
+    if dialogue.0 > SILENCE_LUFS && bed.0 > SILENCE_LUFS {
         let ratio = dialogue.0 - bed.0 + reduction.0;
-        return Shown::Level(float::round(round(ratio) * 10.0) / 10.0);
+        Shown::Level(float::round_to(round(ratio), 10.0))
+    } else {
+        Shown::Silence
     }
-    Shown::Silence
 }
 
 // The settings as the engine takes them.
 fn config(d: Duck) -> AutomixEngineConfig
     ensures { result ≡ config_of d }
 {
-    let max_gain_reduction_db = d.max_reduction_db;
     AutomixEngineConfig {
         target_ratio_lu: d.target_lu,
         overvoice_ratio_lu: d.overvoice_lu,
-        max_gain_reduction_db,
+        max_gain_reduction_db: d.max_reduction_db,
         speed: d.speed,
     }
 }
 
 // What is shown of an enabled frame.
+#[tactic(auto, unfolding(crate::specs::Status::status_of))]
 fn status(c: AutomixEngineConfig, state: MixState, l: LoopContributions, i: Inputs) -> RatioStatus
     ensures { result ≡ status_of c state l i }
 {
@@ -127,6 +133,7 @@ fn status(c: AutomixEngineConfig, state: MixState, l: LoopContributions, i: Inpu
 }
 
 // Whether a shown reading is finite; silence is.
+#[tactic(auto, unfolding(crate::specs::Finite::finite_shown))]
 fn finite_shown(s: Shown) -> bool
     ensures { result ≡ finite_shown s }
 {
@@ -137,33 +144,33 @@ fn finite_shown(s: Shown) -> bool
 }
 
 // Whether all that is stored is finite.
+#[tactic(auto, unfolding(crate::specs::Finite::finite_loops))]
 fn finite_loops(l: Loops) -> bool
     ensures { result ≡ finite_loops l }
 {
     float::finite(l.slow.0)
-        & float::finite(l.mid.0)
-        & float::finite(l.fast.0)
-        & float::finite(l.hold_remaining_seconds)
+        && float::finite(l.mid.0)
+        && float::finite(l.fast.0)
+        && float::finite(l.hold_remaining_seconds)
 }
 
 // Whether all that is shown is finite.
+#[tactic(auto, unfolding(crate::specs::Finite::finite_status))]
 fn finite_status(s: RatioStatus) -> bool
     ensures { result ≡ finite_status s }
 {
-    let ratio_lu = s.ratio_lu;
-    let dialogue_lufs = s.dialogue_lufs;
-    let bed_lufs = s.bed_lufs;
     float::finite(s.reduction_db.0)
-        & float::finite(s.slow_db.0)
-        & float::finite(s.mid_db.0)
-        & float::finite(s.fast_db.0)
-        & float::finite(s.target_lu)
-        & finite_shown(ratio_lu)
-        & finite_shown(dialogue_lufs)
-        & finite_shown(bed_lufs)
+        && float::finite(s.slow_db.0)
+        && float::finite(s.mid_db.0)
+        && float::finite(s.fast_db.0)
+        && float::finite(s.target_lu)
+        && finite_shown(s.ratio_lu)
+        && finite_shown(s.dialogue_lufs)
+        && finite_shown(s.bed_lufs)
 }
 
 // Loops at 0, and no reduction.
+#[tactic(auto, unfolding(crate::specs::Frame::disabled_frame))]
 fn disabled(d: Duck) -> Framed
     ensures { result ≡ disabled_frame d }
 {
@@ -191,17 +198,15 @@ fn disabled(d: Duck) -> Framed
 }
 
 // Slow and mid, then fast, then their sum.
+#[tactic(auto, unfolding(crate::specs::Frame::enabled_frame))]
 fn enabled(loops: Loops, d: Duck, i: Inputs) -> Framed
     ensures { result ≡ enabled_frame loops d i }
 {
     let c = config(d);
-    let bed_short_term_lufs = i.bed_short_term;
-    let bed_momentary_lufs = i.bed_momentary;
-    let dialogue_short_term_lufs = i.dialogue_short_term;
     let loudness = LoudnessSnapshot {
-        bed_short_term_lufs,
-        bed_momentary_lufs,
-        dialogue_short_term_lufs,
+        bed_short_term_lufs: i.bed_short_term,
+        bed_momentary_lufs: i.bed_momentary,
+        dialogue_short_term_lufs: i.dialogue_short_term,
     };
     let t = c.process_tick(
         loops,
@@ -235,11 +240,13 @@ fn enabled(loops: Loops, d: Duck, i: Inputs) -> Framed
 }
 
 // One frame: the reduction of the bed, what is shown of it, and the loops for the next frame. A disabled duck's loops go to 0.
+#[tactic(auto, unfolding(crate::specs::Frame::frame_of))]
 pub fn frame(loops: Loops, d: Duck, i: Inputs) -> Framed
     ensures { result ≡ frame_of loops d i }
 {
     if d.enabled {
-        return enabled(loops, d, i);
+        enabled(loops, d, i)
+    } else {
+        disabled(d)
     }
-    disabled(d)
 }

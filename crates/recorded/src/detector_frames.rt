@@ -1,10 +1,17 @@
 // The voice detector against the recorded frames. A list: signal (3 words), count of frames; then probability, level_dbfs and the four
-// features of the frames that are shown.
-use super::input::Buffer;
+// features of the frames that are recorded.
+use super::file::EndsEarly;
+use super::lists::List;
 use super::replay::Replay;
 use super::signal;
 use super::signal::Signal;
 use detector::{FeatureDetector, Frame};
+
+#[derive(Clone, Copy)]
+pub struct DetectorFrames {
+    signal: Signal,
+    detector: FeatureDetector,
+}
 
 fn words(f: Frame) -> [u64; 6] {
     let features = f.features;
@@ -18,38 +25,24 @@ fn words(f: Frame) -> [u64; 6] {
     ]
 }
 
-// A list's frames, from a detector that has heard nothing.
-fn play(mut r: Replay, name: &str, buffer: &mut Buffer, s: Signal, count: u64) -> Replay {
-    let mut detector = FeatureDetector::new();
-    let mut first = 0;
-    let mut i = 0;
-    while i < count {
-        let x = s.frame(first);
-        let h = detector.frame(&x);
-        let frame = h.frame;
-        r = signal::compare(r, name, buffer, i, &words(frame), h.finite);
-        if r.input.ended {
-            return r;
-        }
-        let next = h.detector;
-        detector = next;
-        first = signal::next_frame(first);
-        i += 1;
+impl List for DetectorFrames {
+    fn begin(replay: &mut Replay) -> Result<(DetectorFrames, u64), EndsEarly> {
+        let frames = DetectorFrames {
+            signal: Signal::from(replay.words.array()?),
+            detector: FeatureDetector::new(),
+        };
+        Ok((frames, replay.words.word()?))
     }
-    r
-}
 
-pub fn list(before: Replay, name: &str, buffer: &mut Buffer) -> Replay {
-    let mut head = [0u64; 4];
-    let r = before.list(buffer, &mut head);
-    if r.input.ended {
-        return r;
+    fn step(&mut self, replay: &mut Replay, i: u64) -> Result<(), EndsEarly> {
+        let h = self
+            .detector
+            .frame(&self.signal.frame(signal::frame_start(0, i)));
+        self.detector = h.detector;
+        replay.frame(i, &words(h.frame), h.finite)
     }
-    play(
-        r,
-        name,
-        buffer,
-        Signal::new(head[0], head[1], head[2]),
-        head[3],
-    )
+
+    fn end(&self, _replay: &mut Replay, _count: u64) -> Result<(), EndsEarly> {
+        Ok(())
+    }
 }

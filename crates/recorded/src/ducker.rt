@@ -1,6 +1,7 @@
 // The ratio duck against the recorded answers. A list: count of frames; then for each frame the duck's 6 settings and 6 inputs, the 13
 // words of the answer and the 4 loops after it.
-use super::input::Buffer;
+use super::file::EndsEarly;
+use super::lists::List;
 use super::replay::Replay;
 use comis::loop_bank::Loops;
 use float::{Db, Lufs};
@@ -12,10 +13,8 @@ const SETTINGS: usize = 6;
 // The inputs of a frame.
 const INPUTS: usize = 6;
 
-// What has been compared, and the loops for the next frame.
 #[derive(Clone, Copy)]
-struct Stepped {
-    r: Replay,
+pub struct Ducker {
     loops: Loops,
 }
 
@@ -50,52 +49,30 @@ fn stored(l: Loops) -> [u64; 4] {
     ]
 }
 
-// Frame i of a list.
-fn step(before: Replay, name: &str, buffer: &mut Buffer, i: u64, loops: Loops) -> Stepped {
-    let mut s = [0u64; SETTINGS];
-    let mut x = [0u64; INPUTS];
-    let set = before.words(buffer, &mut s);
-    let given = set.words(buffer, &mut x);
-    let f = ratio::frame(loops, settings(&s), inputs(&x));
-    let reduction = f.reduction;
-    let status = f.status;
-    let next = f.loops;
-    let answered = given.compare(name, buffer, i, &words::status(reduction, status));
-    let r = answered.compare(name, buffer, i, &stored(next));
-    Stepped {
-        r: r.accept(name, i, f.finite).count(),
-        loops: next,
+impl List for Ducker {
+    fn begin(replay: &mut Replay) -> Result<(Ducker, u64), EndsEarly> {
+        let loops = Loops {
+            slow: Db(0.0),
+            mid: Db(0.0),
+            fast: Db(0.0),
+            hold_remaining_seconds: 0.0,
+        };
+        Ok((Ducker { loops }, replay.words.word()?))
     }
-}
 
-// A list's frames, from loops at 0.
-fn play(mut r: Replay, name: &str, buffer: &mut Buffer, count: u64) -> Replay {
-    let mut loops = Loops {
-        slow: Db(0.0),
-        mid: Db(0.0),
-        fast: Db(0.0),
-        hold_remaining_seconds: 0.0,
-    };
-    let mut i = 0;
-    while i < count {
-        let s = step(r, name, buffer, i, loops);
-        let after = s.r;
-        let next = s.loops;
-        r = after;
-        loops = next;
-        if r.input.ended {
-            return r;
-        }
-        i += 1;
+    fn step(&mut self, replay: &mut Replay, i: u64) -> Result<(), EndsEarly> {
+        let duck = settings(&replay.words.array()?);
+        let heard = inputs(&replay.words.array()?);
+        let f = ratio::frame(self.loops, duck, heard);
+        self.loops = f.loops;
+        replay.compare(i, &words::status(f.reduction, f.status))?;
+        replay.compare(i, &stored(self.loops))?;
+        replay.accept(i, f.finite);
+        replay.count();
+        Ok(())
     }
-    r
-}
 
-pub fn list(before: Replay, name: &str, buffer: &mut Buffer) -> Replay {
-    let mut head = [0u64; 1];
-    let r = before.list(buffer, &mut head);
-    if r.input.ended {
-        return r;
+    fn end(&self, _replay: &mut Replay, _count: u64) -> Result<(), EndsEarly> {
+        Ok(())
     }
-    play(r, name, buffer, head[0])
 }

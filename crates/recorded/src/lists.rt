@@ -1,45 +1,36 @@
 // The modules whose recorded files are lists of answers, each list from a fresh state.
-use super::input::Buffer;
+use super::file::EndsEarly;
 use super::replay::Replay;
-use super::{decision, detector_frames, ducker, filter, input, level_frames, replay};
-use std::io::Stdout;
 
-#[derive(Clone, Copy)]
-pub enum Module {
-    Filter,
-    Level,
-    Detector,
-    Decision,
-    Ducker,
+// A module within a list: what its next answer comes from.
+pub trait List: Copy {
+    // Reads the words that a list begins with: the module before the list's answers, and how many these are.
+    fn begin(replay: &mut Replay) -> Result<(Self, u64), EndsEarly>;
+
+    // Computes and compares answer i.
+    fn step(&mut self, replay: &mut Replay, i: u64) -> Result<(), EndsEarly>;
+
+    // Compares what the list ends with, behind its answers.
+    fn end(&self, replay: &mut Replay, count: u64) -> Result<(), EndsEarly>;
 }
 
-// The module's next list, where there is one.
-fn next_list(module: Module, r: Replay, name: &str, buffer: &mut Buffer) -> Replay {
-    match module {
-        Module::Filter => filter::list(r, name, buffer),
-        Module::Level => level_frames::list(r, name, buffer),
-        Module::Detector => detector_frames::list(r, name, buffer),
-        Module::Decision => decision::list(r, name, buffer),
-        Module::Ducker => ducker::list(r, name, buffer),
+fn one_list<L: List>(replay: &mut Replay) -> Result<(), EndsEarly> {
+    let (mut list, count) = L::begin(replay)?;
+    replay.begin();
+    for i in 0..count {
+        list.step(replay, i)?;
     }
+    list.end(replay, count)
 }
 
-fn all_lists(out: Stdout, module: Module, name: &str, buffer: &mut Buffer) -> Replay {
-    let mut r = replay::open(out, buffer);
-    let mut turns = u64::MAX;
-    while 0 < turns {
-        r = next_list(module, r, name, buffer);
-        if r.input.ended {
-            return r;
+// All lists of a module's file.
+pub fn all<L: List>(replay: &mut Replay) -> Result<(), EndsEarly> {
+    // A `while` would have to be told that each turn reads a word; the count says that the loop ends.
+    for _ in 0..u64::MAX {
+        if replay.words.is_at_end() {
+            break;
         }
-        turns -= 1;
+        one_list::<L>(replay)?;
     }
-    r
-}
-
-// Replays a module's file and says what its lists and its answers came to.
-pub fn replay(rt: &HostRuntime, module: Module, name: &str, lists: &str, answers: &str) {
-    let mut buffer = input::named(rt, name);
-    let r = all_lists(rt.stdout(), module, name, &mut buffer);
-    r.finish(name, lists, answers);
+    Ok(())
 }

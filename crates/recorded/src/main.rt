@@ -1,31 +1,59 @@
 // Replays what the Rust answered, as compare/record wrote it to data/, through the port, and says how many answers differ by their bits.
 #![tactic(auto)]
 
-mod bits;
 mod decision;
 mod detector_frames;
 mod ducker;
+mod file;
 mod filter;
 mod frames;
-mod input;
-mod level_frames;
+mod kind;
+mod level_readings;
 mod lists;
 mod numbers;
-mod print;
 mod replay;
+mod seed;
 mod signal;
 mod signals;
 mod strands;
 
-use lists::Module;
+use decision::Decisions;
+use detector_frames::DetectorFrames;
+use ducker::Ducker;
+use filter::Filter;
+use level_readings::LevelReadings;
 
 fn main(rt: HostRuntime) {
     numbers::replay(&rt, "numbers");
-    lists::replay(&rt, Module::Filter, "filter", " signals, ", " outputs, ");
-    lists::replay(&rt, Module::Level, "level", " signals, ", " readings, ");
-    lists::replay(&rt, Module::Detector, "detector", " signals, ", " frames, ");
-    lists::replay(&rt, Module::Decision, "decision", " lists, ", " frames, ");
-    lists::replay(&rt, Module::Ducker, "ducker", " lists, ", " frames, ");
-    frames::replay(&rt, "frames");
-    frames::replay(&rt, "surround");
+    replay::module(
+        &rt,
+        "filter",
+        " signals, ",
+        " outputs, ",
+        lists::all::<Filter>,
+    );
+    replay::module(
+        &rt,
+        "level",
+        " signals, ",
+        " readings, ",
+        lists::all::<LevelReadings>,
+    );
+    replay::module(
+        &rt,
+        "detector",
+        " signals, ",
+        " frames, ",
+        lists::all::<DetectorFrames>,
+    );
+    replay::module(
+        &rt,
+        "decision",
+        " lists, ",
+        " frames, ",
+        lists::all::<Decisions>,
+    );
+    replay::module(&rt, "ducker", " lists, ", " frames, ", lists::all::<Ducker>);
+    replay::module(&rt, "frames", " lists, ", " calls, ", frames::all);
+    replay::module(&rt, "surround", " lists, ", " calls, ", frames::all);
 }

@@ -1,124 +1,171 @@
 // The number functions against recorded cases of three words: the function's number, the argument's bits, the result's bits.
-use super::input::{Buffer, Input};
+use super::file;
+use super::file::{EndsEarly, Words};
 use super::replay::SHOWN;
-use super::{input, print};
+use std::fmt;
 use std::io::Stdout;
 
-// Functions are counted from 1; place 0 counts cases of unknown functions.
-const PLACES: usize = 10;
+// The functions in the order of their numbers, which begin at 1.
+const FUNCTIONS: [Function; 9] = [
+    Function::Log2,
+    Function::Log10,
+    Function::Exp2,
+    Function::Exp,
+    Function::Exp10,
+    Function::Exp60,
+    Function::Sqrt,
+    Function::Narrow,
+    Function::Round,
+];
 
-// The bits of the function's result at the argument with these bits.
-fn result(function: usize, argument: u64) -> u64 {
-    let x = float::from_bits(argument);
-    match function {
-        1 => float::to_bits(logarithm::log2(x)),
-        2 => float::to_bits(logarithm::log10(x)),
-        3 => float::to_bits(power::exp2(x)),
-        4 => float::to_bits(power::exp(x)),
-        5 => float::to_bits(power::exp10(x)),
-        6 => float::to_bits(power::exp60(x)),
-        7 => float::to_bits(root::sqrt(x)),
-        8 => float::to_bits32(narrow::narrow(x)) as u64,
-        _ => float::to_bits(float::round(x)),
-    }
+#[derive(Clone, Copy)]
+enum Function {
+    Log2,
+    Log10,
+    Exp2,
+    Exp,
+    Exp10,
+    Exp60,
+    Sqrt,
+    Narrow,
+    Round,
 }
 
-fn name_of(function: usize) -> &'static str {
-    match function {
-        0 => "unknown functions",
-        1 => "log2",
-        2 => "log10",
-        3 => "exp2",
-        4 => "exp",
-        5 => "exp10",
-        6 => "exp60",
-        7 => "sqrt",
-        8 => "narrow",
-        _ => "round",
-    }
+// The cases of a function, and how many of them differ.
+#[derive(Clone, Copy)]
+struct Tally {
+    function: Function,
+    cases: u64,
+    differ: u64,
 }
 
-// Counts a case, and counts and shows it where the result differs.
-fn compare(
+// The cases of each function, and those of unknown functions.
+#[derive(Clone, Copy)]
+struct Numbers {
     out: Stdout,
-    function: usize,
-    argument: u64,
-    recorded: u64,
-    cases: &mut [u64; PLACES],
-    differ: &mut [u64; PLACES],
-) {
-    if function == 0 || PLACES <= function {
-        cases[0] = std::num::wrapping_add_u64(cases[0], 1);
-        return;
-    }
-    cases[function] = std::num::wrapping_add_u64(cases[function], 1);
-    let computed = result(function, argument);
-    if computed == recorded {
-        return;
-    }
-    if differ[function] < SHOWN {
-        let function_name = name_of(function);
-        print::text(out, format_args!("{function_name} of {argument:016x}"));
-        print::difference(out, recorded, computed);
-    }
-    differ[function] = std::num::wrapping_add_u64(differ[function], 1);
+    tallies: [Tally; 9],
+    unknown: u64,
 }
 
-// Reads and compares the next case, where there is one.
-fn next_case(
-    out: Stdout,
-    before: Input,
-    buffer: &mut Buffer,
-    cases: &mut [u64; PLACES],
-    differ: &mut [u64; PLACES],
-) -> Input {
-    let mut case = [0u64; 3];
-    let input = before.first_words(buffer, &mut case);
-    if input.ended {
-        return input;
-    }
-    compare(out, case[0] as usize, case[1], case[2], cases, differ);
-    input
-}
-
-fn all_cases(
-    out: Stdout,
-    buffer: &mut Buffer,
-    cases: &mut [u64; PLACES],
-    differ: &mut [u64; PLACES],
-) -> Input {
-    let mut input = input::open(buffer);
-    let mut turns = u64::MAX;
-    while 0 < turns {
-        input = next_case(out, input, buffer, cases, differ);
-        if input.ended {
-            return input;
+impl Function {
+    // The bits of the function's result at the argument with these bits.
+    fn result(self, argument: u64) -> u64 {
+        let x = float::from_bits(argument);
+        match self {
+            Function::Log2 => float::to_bits(logarithm::log2(x)),
+            Function::Log10 => float::to_bits(logarithm::log10(x)),
+            Function::Exp2 => float::to_bits(power::exp2(x)),
+            Function::Exp => float::to_bits(power::exp(x)),
+            Function::Exp10 => float::to_bits(power::exp10(x)),
+            Function::Exp60 => float::to_bits(power::exp60(x)),
+            Function::Sqrt => float::to_bits(root::sqrt(x)),
+            Function::Narrow => u64::from(float::to_bits32(narrow::narrow(x))),
+            Function::Round => float::to_bits(float::round(x)),
         }
-        turns -= 1;
     }
-    input
 }
 
-fn print_counts(out: Stdout, function: usize, cases: u64, differ: u64) {
-    let function_name = name_of(function);
-    let _ = println!(out; "{function_name}: {cases} cases, {differ} differ");
+impl fmt::Display for Function {
+    fn fmt<W: fmt::Write>(&self, f: &mut fmt::Formatter<W>) -> fmt::Result {
+        let name = match self {
+            Function::Log2 => "log2",
+            Function::Log10 => "log10",
+            Function::Exp2 => "exp2",
+            Function::Exp => "exp",
+            Function::Exp10 => "exp10",
+            Function::Exp60 => "exp60",
+            Function::Sqrt => "sqrt",
+            Function::Narrow => "narrow",
+            Function::Round => "round",
+        };
+        write!(f, "{name}")
+    }
 }
 
-// A line for each function, and one for unknown functions where there are any.
-fn print_all(out: Stdout, cases: &[u64; PLACES], differ: &[u64; PLACES]) {
-    for function in 1..PLACES {
-        print_counts(out, function, cases[function], differ[function]);
+impl Tally {
+    fn new(function: Function) -> Tally {
+        Tally {
+            function,
+            cases: 0,
+            differ: 0,
+        }
     }
-    if 0 < cases[0] {
-        print_counts(out, 0, cases[0], 0);
+
+    // Counts a case, and counts and shows it where the result differs.
+    fn compare(&mut self, out: Stdout, argument: u64, recorded: u64) {
+        let computed = self.function.result(argument);
+        if computed != recorded {
+            if self.differ < SHOWN {
+                let function = self.function;
+                let _ = println!(out;
+                    "{function} of {argument:016x}: recorded {recorded:016x}, computed {computed:016x}"
+                );
+            }
+            self.differ = self.differ.saturating_add(1);
+        }
+        self.cases = self.cases.saturating_add(1);
+    }
+}
+
+impl Numbers {
+    fn new(out: Stdout) -> Numbers {
+        Numbers {
+            out,
+            tallies: FUNCTIONS.map(Tally::new),
+            unknown: 0,
+        }
+    }
+
+    // Compares the next case.
+    fn case(&mut self, words: &mut Words) -> Result<(), EndsEarly> {
+        let [function, argument, recorded] = words.array::<3>()?;
+        // 0 is no function's number: its place is past the table.
+        match self.tallies.get_mut((function as usize).wrapping_sub(1)) {
+            Some(tally) => tally.compare(self.out, argument, recorded),
+            None => self.unknown = self.unknown.saturating_add(1),
+        }
+        Ok(())
+    }
+
+    fn all(&mut self, file: &[u8]) -> Result<(), EndsEarly> {
+        let mut words = Words::new(file)?;
+        // A `while` would have to be told that each turn reads a word; the count says that the loop ends.
+        for _ in 0..u64::MAX {
+            if words.is_at_end() {
+                break;
+            }
+            self.case(&mut words)?;
+        }
+        Ok(())
+    }
+
+    // A line for each function, and one for unknown functions where there are any.
+    fn print(self) {
+        for tally in self.tallies {
+            let function = tally.function;
+            let cases = tally.cases;
+            let differ = tally.differ;
+            let _ = println!(self.out; "{function}: {cases} cases, {differ} differ");
+        }
+        if 0 < self.unknown {
+            let unknown = self.unknown;
+            let _ = println!(self.out; "unknown functions: {unknown} cases, 0 differ");
+        }
     }
 }
 
 pub fn replay(rt: &HostRuntime, name: &str) {
-    let mut cases = [0u64; PLACES];
-    let mut differ = [0u64; PLACES];
-    let mut buffer = input::named(rt, name);
-    let input = all_cases(rt.stdout(), &mut buffer, &mut cases, &mut differ);
-    input.close(rt.stdout(), name);
-    print_all(rt.stdout(), &cases, &differ);
+    let out = rt.stdout();
+    let mut numbers = Numbers::new(out);
+    match file::read(rt, name) {
+        Ok((bytes, whole)) => {
+            if let Err(why) = numbers.all(bytes.as_slice()).and(whole) {
+                let _ = println!(out; "{name}: {why}");
+            }
+        }
+        Err(_) => {
+            let _ = println!(out; "{name}: no such file");
+        }
+    }
+    numbers.print();
 }

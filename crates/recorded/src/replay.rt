@@ -1,174 +1,153 @@
-// A recorded file of lists, and what has been compared of it.
-use super::input::{Buffer, Input};
-use super::print;
+// What has been compared of a recorded file of lists of answers.
+use super::file;
+use super::file::{EndsEarly, Words};
 use std::io::Stdout;
 
 // How many differing answers are shown.
 pub const SHOWN: u64 = 5;
 
-#[derive(Clone, Copy)]
-pub struct Replay {
+#[derive(Drop)]
+pub struct Replay<'a> {
     out: Stdout,
-    pub input: Input,
+    name: &'a str,
+    pub words: Words<'a>,
+    pub counts: Counts,
+    word: u64, // how many words of the present answer were compared
+    wrong: bool, // whether one of them differs
+}
+
+#[derive(Clone, Copy, Default)]
+pub struct Counts {
     lists: u64,
     answers: u64,
     differ: u64,
-    word: u64, // how many words of the present answer were compared
-    wrong: u64, // 1 where one of them differs, else 0
 }
 
-// The beginning of a line on a difference. Lists and places are counted from 0.
-fn print_place(out: Stdout, name: &str, list: u64, place: u64) {
-    let _ = print!(out; "{name}: list {list}, place {place}");
-}
-
-// A file past its text; `out` is where its differences are shown.
-pub fn open(out: Stdout, buffer: &mut Buffer) -> Replay {
-    Replay {
-        out,
-        input: super::input::open(buffer),
-        lists: 0,
-        answers: 0,
-        differ: 0,
-        word: 0,
-        wrong: 0,
-    }
-}
-
-impl Replay {
-    // The next words, where the file may end before them.
-    pub fn first_words(mut self, buffer: &mut Buffer, to: &mut [u64]) -> Replay {
-        let before = self.input;
-        let input = before.first_words(buffer, to);
-        self.input = input;
-        self
+impl<'a> Replay<'a> {
+    pub fn new(out: Stdout, name: &'a str, words: Words<'a>) -> Replay<'a> {
+        Replay {
+            out,
+            name,
+            words,
+            counts: Counts::default(),
+            word: 0,
+            wrong: false,
+        }
     }
 
     // A list begins.
-    pub fn begin(mut self) -> Replay {
-        self.lists = std::num::wrapping_add_u64(self.lists, 1);
-        self
+    pub fn begin(&mut self) {
+        self.counts.lists = self.counts.lists.saturating_add(1);
     }
 
-    // The words that the next list begins with, where there is one.
-    pub fn list(self, buffer: &mut Buffer, to: &mut [u64]) -> Replay {
-        let r = self.first_words(buffer, to);
-        if r.input.ended {
-            return r;
-        }
-        r.begin()
-    }
-
-    // The next words of the list.
-    pub fn words(mut self, buffer: &mut Buffer, to: &mut [u64]) -> Replay {
-        let before = self.input;
-        let input = before.words(buffer, to);
-        self.input = input;
-        self
-    }
-
-    // 1 where the recorded word is another than the computed one, which is shown; else 0.
-    fn off(self, name: &str, place: u64, recorded: u64, computed: u64) -> u64 {
-        if self.input.ended {
-            return 0;
-        }
-        if recorded == computed {
-            return 0;
-        }
-        if self.differ < SHOWN {
-            print_place(
-                self.out,
-                name,
-                std::num::wrapping_sub_u64(self.lists, 1),
-                place,
-            );
-            let word = self.word;
-            print::text(self.out, format_args!(", word {word}"));
-            print::difference(self.out, recorded, computed);
-        }
-        1
+    // Shows where something differs. Lists and places are counted from 0.
+    fn show_place(&self, place: u64) {
+        let name = self.name;
+        let list = self.counts.lists.saturating_sub(1);
+        let _ = print!(self.out; "{name}: list {list}, place {place}");
     }
 
     // Compares a word that has been read with the computed one.
-    pub fn judge(mut self, name: &str, place: u64, recorded: u64, computed: u64) -> Replay {
-        self.wrong = self.wrong | self.off(name, place, recorded, computed);
-        self.word = std::num::wrapping_add_u64(self.word, 1);
-        self
-    }
-
-    fn compare_word(
-        mut self,
-        name: &str,
-        buffer: &mut Buffer,
-        place: u64,
-        computed: u64,
-    ) -> Replay {
-        let before = self.input;
-        let got = before.word(buffer);
-        let input = got.input;
-        self.input = input;
-        self.judge(name, place, got.word, computed)
+    pub fn judge(&mut self, place: u64, recorded: u64, computed: u64) {
+        if recorded != computed {
+            if self.counts.differ < SHOWN {
+                let word = self.word;
+                self.show_place(place);
+                let _ = println!(self.out;
+                    ", word {word}: recorded {recorded:016x}, computed {computed:016x}"
+                );
+            }
+            self.wrong = true;
+        }
+        self.word = self.word.saturating_add(1);
     }
 
     // Compares the list's next words with those of a part of an answer. The place is shown where they differ.
-    pub fn compare(mut self, name: &str, buffer: &mut Buffer, place: u64, words: &[u64]) -> Replay {
-        let mut k = 0;
-        while k < words.len() {
-            self = self.compare_word(name, buffer, place, words[k]);
-            k += 1;
+    pub fn compare(&mut self, place: u64, words: &[u64]) -> Result<(), EndsEarly> {
+        for computed in words {
+            let recorded = self.words.word()?;
+            self.judge(place, recorded, *computed);
         }
-        self
+        Ok(())
     }
 
     // The Rust accepted each recorded frame, so one that runs away differs.
-    pub fn accept(mut self, name: &str, place: u64, finite: bool) -> Replay {
-        if finite {
-            return self;
+    pub fn accept(&mut self, place: u64, finite: bool) {
+        if !finite {
+            if self.counts.differ < SHOWN {
+                self.show_place(place);
+                let _ = println!(self.out; ": runs away");
+            }
+            self.wrong = true;
         }
-        if self.differ < SHOWN {
-            print_place(
-                self.out,
-                name,
-                std::num::wrapping_sub_u64(self.lists, 1),
-                place,
-            );
-            print::text(self.out, ": runs away\n");
-        }
-        self.wrong = 1;
-        self
     }
 
-    // The answer is whole. Where the file ended within it, it doesn't count.
-    pub fn count(mut self) -> Replay {
-        if self.input.ended {
-            return self;
-        }
-        self.answers = std::num::wrapping_add_u64(self.answers, 1);
-        self.differ = std::num::wrapping_add_u64(self.differ, self.wrong);
+    // The answer is whole.
+    pub fn count(&mut self) {
+        self.counts.answers = self.counts.answers.saturating_add(1);
+        self.counts.differ = self.counts.differ.saturating_add(u64::from(self.wrong));
         self.word = 0;
-        self.wrong = 0;
-        self
+        self.wrong = false;
     }
 
     // Compares the list's next words with those of a whole answer.
-    pub fn answer(self, name: &str, buffer: &mut Buffer, place: u64, words: &[u64]) -> Replay {
-        self.compare(name, buffer, place, words).count()
+    pub fn answer(&mut self, place: u64, words: &[u64]) -> Result<(), EndsEarly> {
+        self.compare(place, words)?;
+        self.count();
+        Ok(())
     }
 
-    // The file goes on with something unknown: nothing more can be read of it.
-    pub fn stop(mut self) -> Replay {
-        let before = self.input;
-        self.input = before.stop();
-        self
+    // The same for frame i of a signal, where it is recorded: the first 50 are, then one in ten.
+    pub fn frame(&mut self, i: u64, words: &[u64], finite: bool) -> Result<(), EndsEarly> {
+        if i < 50 || i % 10 == 0 {
+            self.compare(i, words)?;
+            self.accept(i, finite);
+            self.count();
+        }
+        Ok(())
     }
+}
 
-    // Says what the file's lists and its answers came to.
-    pub fn finish(self, name: &str, lists: &str, answers: &str) {
-        let out = self.out;
-        self.input.close(out, name);
-        let list_count = self.lists;
-        let count = self.answers;
-        let differ = self.differ;
-        let _ = println!(out; "{name}: {list_count}{lists}{count}{answers}{differ} differ");
+// Lets `all` replay a file, as far as that goes, and puts into `counts` what came of it.
+fn count<F: FnOnce(&mut Replay) -> Result<(), EndsEarly>>(
+    out: Stdout,
+    name: &str,
+    file: &[u8],
+    all: F,
+    counts: &mut Counts,
+) -> Result<(), EndsEarly>
+    requires { F.IsAlwaysCallable all }
+{
+    let mut replay = Replay::new(out, name, Words::new(file)?);
+    let ended = all(&mut replay);
+    *counts = replay.counts;
+    ended
+}
+
+// Lets `all` replay the file of a module, and says what its lists and its answers came to.
+pub fn module<F: FnOnce(&mut Replay) -> Result<(), EndsEarly>>(
+    rt: &HostRuntime,
+    name: &str,
+    lists: &str,
+    answers: &str,
+    all: F,
+)
+    requires { F.IsAlwaysCallable all }
+{
+    let out = rt.stdout();
+    let mut counts = Counts::default();
+    match file::read(rt, name) {
+        Ok((bytes, whole)) => {
+            if let Err(why) = count(out, name, bytes.as_slice(), all, &mut counts).and(whole) {
+                let _ = println!(out; "{name}: {why}");
+            }
+        }
+        Err(_) => {
+            let _ = println!(out; "{name}: no such file");
+        }
     }
+    let list_count = counts.lists;
+    let answer_count = counts.answers;
+    let differ = counts.differ;
+    let _ = println!(out; "{name}: {list_count}{lists}{answer_count}{answers}{differ} differ");
 }

@@ -1,71 +1,61 @@
 // The signals of the recorded files, frame by frame.
-use super::input::Buffer;
-use super::replay::Replay;
-use super::{bits, signals};
+ghost use Rattle.std.specs.Prelude.{◌≡◌, ◌+◌, ◌*◌, ◌%◌, ◌^◌};
+ghost use Rattle.recorded.specs.Signals.{sample_of};
+
+use super::kind::Kind;
+use super::seed::Seed;
+use super::{file, signals};
 use level::FRAME;
 
-// A signal by its number, seed and scale.
 #[derive(Clone, Copy)]
 pub struct Signal {
-    number: u64,
-    seed: u64,
+    kind: Kind,
+    seed: Seed,
     scale: f32,
 }
 
-// Whether frame i is among those recorded: the first 50, then one in ten.
-fn shown(i: u64) -> bool {
-    (i < 50) | (i % 10 == 0)
-}
+// A signal by its three words of a recorded file.
+impl From<[u64; 3]> for Signal {
+    ghost use Rattle.std.specs.Prelude.{◌≡◌, ◌%◌, ◌^◌, slice_index, from_bits};
+    ghost use Rattle.std.specs.Float.{binary32};
+    ghost use Rattle.recorded.specs.Signals.{kind_of, seed_of};
 
-// Compares the answer of frame i, where it is recorded.
-pub fn compare(
-    r: Replay,
-    name: &str,
-    buffer: &mut Buffer,
-    i: u64,
-    words: &[u64],
-    finite: bool,
-) -> Replay {
-    if shown(i) {
-        let compared = r.compare(name, buffer, i, words);
-        return compared.accept(name, i, finite).count();
+    ghost from_gives = { λ words signal. (signal.kind ≡ kind_of (slice_index words 0)) × (signal.seed.value ≡ seed_of (slice_index words 1)) × (signal.scale ≡ from_bits binary32 (slice_index words 2 % 2 ^ 32)) };
+
+    fn from(words: [u64; 3]) -> Signal {
+        let [kind, seed, scale] = words;
+        Signal {
+            kind: Kind::from(kind),
+            seed: Seed::from(seed),
+            scale: file::value32(scale),
+        }
     }
-    r
 }
 
-// The first sample of the frame after the one that begins at sample `first`.
-pub fn next_frame(first: u64) -> u64 {
-    std::num::wrapping_add_u64(first, FRAME as u64)
+// The first sample of the frame that comes `frames` frames after the one which begins at sample `first`.
+pub fn frame_start(first: u64, frames: u64) -> u64
+    ensures { result ≡ (first + frames * 480 % 2 ^ 64) % 2 ^ 64 }
+{
+    first.wrapping_add(frames.wrapping_mul(FRAME as u64))
 }
 
 impl Signal {
-    // A signal by its three words of a recorded file.
-    pub fn new(number: u64, seed: u64, scale: u64) -> Self {
-        Self {
-            number,
-            seed,
-            scale: bits::value32(scale),
-        }
-    }
-
-    pub fn sample(self, n: u64) -> f32 {
-        signals::sample(self.number, self.seed, self.scale, n)
+    pub fn sample(self, n: u64) -> f32
+        ensures { result ≡ sample_of self.kind self.seed.value self.scale n }
+    {
+        signals::sample(self.kind, self.seed, self.scale, n)
     }
 
     // Fills a slice with samples, from sample `first` on.
     pub fn fill(self, first: u64, to: &mut [f32]) {
-        let mut n = first;
-        let mut k = 0;
-        while k < to.len() {
-            to[k] = self.sample(n);
-            n = std::num::wrapping_add_u64(n, 1);
-            k += 1;
+        for (k, x) in to.iter_mut().enumerate() {
+            *x = self.sample(first.wrapping_add(k as u64));
         }
     }
 
     // A frame, from sample `first` on.
     pub fn frame(self, first: u64) -> [f32; FRAME] {
-        let mut x = [0.0f32; FRAME];
+        let mut x = [0.0; FRAME];
         self.fill(first, &mut x);
         x
     }

@@ -1,33 +1,17 @@
 // Deterministic signals by whole-number arithmetic: the same as compare/src/signals.rs makes.
-// Sample n of a signal is (v - 32768) * scale, v = `value(signal, seed, n)` from 0 to 65536. The difference is exact, the product rounded once.
+// Sample n of a signal is (v - 32768) * scale, v = `value(kind, seed, n)` from 0 to 65536. The difference is exact, the product rounded once.
 ghost use Rattle.std.specs.Prelude.{◌≡◌, ◌<◌, ◌≤◌};
-ghost use Rattle.recorded.specs.Signals.{scrambled, noise_of, syllable_of, voice_of, seed_of, sine_of, square_of, impulse_of, burst_of, pulse_of, value_of, sample_of};
+ghost use Rattle.recorded.specs.Signals.{scrambled, noise_of, syllable_of, voice_of, sine_of, square_of, sawtooth_of, impulse_of, burst_of, value_of, sample_of};
+
+use super::kind::Kind;
+use super::seed::Seed;
 
 const MIDDLE: u64 = 32768;
 
 const TWO_31: u64 = 2147483648;
 
-// All samples 1.
-const CONSTANT: u64 = 1;
-// A sine of `seed` kHz at 48 kHz, from a table of 48 values.
-const TONE: u64 = 2;
-// A square wave with a period of `seed` samples: its first half high.
-const SQUARE: u64 = 3;
-// A rising sawtooth with a period of `seed` samples.
-const SAWTOOTH: u64 = 4;
-// White noise.
-const NOISE: u64 = 5;
-// A sawtooth of `seed` samples (400: 120 Hz) in syllables at 4 Hz (a triangle), 2 s long, then 1 s of digital silence.
-const SPEECH: u64 = 6;
-// The same over noise 48 dB below full scale.
-const NOISY_SPEECH: u64 = 7;
-// One full sample in `seed`, else silence.
-const IMPULSES: u64 = 8;
-// Noise for 0.1 s, digital silence for 0.15 s: modulated, not voiced.
-const BURSTS: u64 = 9;
-
 // 1 kHz at 48 kHz: 32768 + 32767 sin(2 pi k / 48), rounded.
-const SINE: [u64; 48] = [
+const SINE: [u16; 48] = [
     32768, 37045, 41249, 45307, 49151, 52715, 55938, 58764, 61145, 63041, 64418, 65255, 65535,
     65255, 64418, 63041, 61145, 58764, 55938, 52715, 49151, 45307, 41249, 37045, 32768, 28491,
     24287, 20229, 16385, 12821, 9598, 6772, 4391, 2495, 1118, 281, 1, 281, 1118, 2495, 4391, 6772,
@@ -35,6 +19,7 @@ const SINE: [u64; 48] = [
 ];
 
 // One linear step modulo 2^31, squared; the middle 31 bits of the square.
+#[tactic(auto, unfolding(crate::specs::Signals::scrambled))]
 fn scramble(x: u64) -> u64
     ensures { (result ≡ scrambled x) × (result < 2147483648) }
 {
@@ -43,11 +28,11 @@ fn scramble(x: u64) -> u64
 }
 
 // 0 to 65,535.
-fn noise(seed: u64, n: u64) -> u64
-    requires { seed < 65536 }
-    ensures { (result ≡ noise_of seed n) × (result < 65536) }
+#[tactic(auto, unfolding(crate::specs::Signals::noise_of))]
+fn noise(seed: Seed, n: u64) -> u64
+    ensures { (result ≡ noise_of seed.value n) × (result < 65536) }
 {
-    scramble(scramble(n) + seed * 7919) / 32768
+    scramble(scramble(n) + seed.value * 7919) / 32768
 }
 
 // The syllables' loudness, 0 to 6,000: a triangle at 4 Hz for 2 s, 0 for 1 s.
@@ -57,117 +42,89 @@ fn syllable(n: u64) -> u64
 {
     let at = n % 12000;
     if n % 144000 >= 96000 {
-        return 0;
+        0
+    } else if at < 6000 {
+        at
+    } else {
+        12000 - at
     }
-    if at < 6000 {
-        return at;
-    }
-    12000 - at
 }
 
 // The sawtooth in syllables, around 32,768, which is silence. Promised: 17,768 to 62,768.
-fn voice(seed: u64, n: u64) -> u64
-    requires { (0 < seed) × (seed < 65536) }
-    ensures { (result ≡ voice_of seed n) × (17768 ≤ result) × (result ≤ 62768) }
+#[tactic(auto, unfolding(crate::specs::Signals::voice_of))]
+fn voice(seed: Seed, n: u64) -> u64
+    ensures { (result ≡ voice_of seed.value n) × (17768 ≤ result) × (result ≤ 62768) }
 {
     let loud = syllable(n);
-    MIDDLE + n % seed * loud * 5 / seed - loud * 5 / 2
+    let period = seed.value;
+    MIDDLE + n % period * loud * 5 / period - loud * 5 / 2
 }
 
-// A seed counts modulo 2^16, and 0 as 1.
-fn seeded(seed: u64) -> u64
-    ensures { (result ≡ seed_of seed) × (0 < result) × (result < 65536) }
+#[tactic(auto, unfolding(crate::specs::Signals::sine_of, crate::specs::Signals::sines))]
+fn sine(seed: Seed, n: u64) -> u64
+    ensures { (result ≡ sine_of seed.value n) × (result ≤ 65536) }
 {
-    let s = seed % 65536;
-    if s == 0 {
-        return 1;
+    u64::from(SINE[(n % 48 * seed.value % 48) as usize])
+}
+
+#[tactic(auto, unfolding(crate::specs::Signals::square_of))]
+fn square(seed: Seed, n: u64) -> u64
+    ensures { (result ≡ square_of seed.value n) × (result ≤ 65536) }
+{
+    if n % seed.value < seed.value / 2 {
+        65536
+    } else {
+        0
     }
-    s
 }
 
-fn sine(seed: u64, n: u64) -> u64
-    requires { seed < 65536 }
-    ensures { (result ≡ sine_of seed n) × (result ≤ 65536) }
+#[tactic(auto, unfolding(crate::specs::Signals::sawtooth_of))]
+fn sawtooth(seed: Seed, n: u64) -> u64
+    ensures { (result ≡ sawtooth_of seed.value n) × (result ≤ 65536) }
 {
-    SINE[(n % 48 * seed % 48) as usize]
+    n % seed.value * 65535 / seed.value
 }
 
-fn square(seed: u64, n: u64) -> u64
-    requires { 0 < seed }
-    ensures { (result ≡ square_of seed n) × (result ≤ 65536) }
+#[tactic(auto, unfolding(crate::specs::Signals::impulse_of))]
+fn impulse(seed: Seed, n: u64) -> u64
+    ensures { (result ≡ impulse_of seed.value n) × (result ≤ 65536) }
 {
-    if n % seed < seed / 2 {
-        return 65536;
-    }
-    0
+    if n % seed.value == 0 { 65536 } else { MIDDLE }
 }
 
-fn impulse(seed: u64, n: u64) -> u64
-    requires { 0 < seed }
-    ensures { (result ≡ impulse_of seed n) × (result ≤ 65536) }
-{
-    if n % seed == 0 {
-        return 65536;
-    }
-    MIDDLE
-}
-
-fn burst(seed: u64, n: u64) -> u64
-    requires { seed < 65536 }
-    ensures { (result ≡ burst_of seed n) × (result ≤ 65536) }
+#[tactic(auto, unfolding(crate::specs::Signals::burst_of))]
+fn burst(seed: Seed, n: u64) -> u64
+    ensures { (result ≡ burst_of seed.value n) × (result ≤ 65536) }
 {
     if n % 12000 < 4800 {
-        return noise(seed, n);
+        noise(seed, n)
+    } else {
+        MIDDLE
     }
-    MIDDLE
 }
 
-// v of sample n, 0 to 65,536, for a seed from 1 to 65,535.
-fn pulse(signal: u64, seed: u64, n: u64) -> u64
-    requires { (0 < seed) × (seed < 65536) }
-    ensures { (result ≡ pulse_of signal seed n) × (result ≤ 65536) }
+// v of sample n, 0 to 65,536.
+pub fn value(kind: Kind, seed: Seed, n: u64) -> u64
+    ensures { (result ≡ value_of kind seed.value n) × (result ≤ 65536) }
 {
-    if signal == CONSTANT {
-        return MIDDLE + 1;
+    match kind {
+        Kind::Silence => MIDDLE,
+        Kind::Constant => MIDDLE + 1,
+        Kind::Tone => sine(seed, n),
+        Kind::Square => square(seed, n),
+        Kind::Sawtooth => sawtooth(seed, n),
+        Kind::Noise => noise(seed, n),
+        Kind::Speech => voice(seed, n),
+        Kind::NoisySpeech => voice(seed, n) + noise(seed, n) / 256 - 128,
+        Kind::Impulses => impulse(seed, n),
+        Kind::Bursts => burst(seed, n),
     }
-    if signal == TONE {
-        return sine(seed, n);
-    }
-    if signal == SQUARE {
-        return square(seed, n);
-    }
-    if signal == SAWTOOTH {
-        return n % seed * 65535 / seed;
-    }
-    if signal == IMPULSES {
-        return impulse(seed, n);
-    }
-    MIDDLE
-}
-
-// v of sample n, 0 to 65,536. An unknown signal is silence.
-pub fn value(signal: u64, seed: u64, n: u64) -> u64
-    ensures { (result ≡ value_of signal seed n) × (result ≤ 65536) }
-{
-    let s = seeded(seed);
-    if signal == NOISE {
-        return noise(s, n);
-    }
-    if signal == SPEECH {
-        return voice(s, n);
-    }
-    if signal == NOISY_SPEECH {
-        return voice(s, n) + noise(s, n) / 256 - 128;
-    }
-    if signal == BURSTS {
-        return burst(s, n);
-    }
-    pulse(signal, s, n)
 }
 
 // Sample n of a signal.
-pub fn sample(signal: u64, seed: u64, scale: f32, n: u64) -> f32
-    ensures { result ≡ sample_of signal seed scale n }
+#[tactic(auto, unfolding(crate::specs::Signals::sample_of))]
+pub fn sample(kind: Kind, seed: Seed, scale: f32, n: u64) -> f32
+    ensures { result ≡ sample_of kind seed.value scale n }
 {
-    (value(signal, seed, n) as f32 - 32768.0) * scale
+    (value(kind, seed, n) as f32 - 32768.0) * scale
 }

@@ -1,71 +1,73 @@
-// The strands of a frame call, by the words of their signals.
-use super::input::Buffer;
-use super::replay::Replay;
+// The strands of a frame call: the signal of the key, and those of the bed's channels.
+ghost use Rattle.std.specs.Prelude.{◌≡◌, ◌*◌, ◌≤◌, cond, nat_le};
+
+use super::file::{EndsEarly, Words};
+use super::signal;
 use super::signal::Signal;
 use level::FRAME;
 
-// The number of the bed's channels, three words of the key's signal, and three of each of eight channels.
-pub const SIGNALS: usize = 28;
+// The most channels of a bed.
+const MOST: usize = 8;
 
-// Samples that a bed has room for: a frame's of eight channels, and one more.
-pub const BED: usize = 3841;
-
-// The words of the signals. Calls for a bed of one channel have no number of channels, and one signal of the bed.
-pub fn read(r: Replay, buffer: &mut Buffer, several: bool, s: &mut [u64; SIGNALS]) -> Replay {
-    if several {
-        return r.words(buffer, s);
-    }
-    let mut w = [0u64; 6];
-    let read = r.words(buffer, &mut w);
-    s[0] = 1;
-    s[1] = w[0];
-    s[2] = w[1];
-    s[3] = w[2];
-    s[4] = w[3];
-    s[5] = w[4];
-    s[6] = w[5];
-    read
+#[derive(Clone, Copy)]
+pub struct Strands {
+    pub key: Signal,
+    bed: [Signal; MOST],
+    channels: usize,
 }
 
-// The signal of the key, 0, or of a channel of the bed, counted from 1.
-pub fn signal(s: &[u64; SIGNALS], number: u64) -> Signal {
-    if number < 9 {
-        let at = 3 * number as usize;
-        return Signal::new(s[at + 1], s[at + 2], s[at + 3]);
+impl Strands {
+    // The strands of a call for a bed of one channel: three words for each of the two signals.
+    pub fn of_one(words: &mut Words) -> Result<Strands, EndsEarly> {
+        let key = Signal::from(words.array()?);
+        let bed = Signal::from(words.array()?);
+        Ok(Strands {
+            key,
+            bed: [bed; MOST],
+            channels: 1,
+        })
     }
-    Signal::new(0, 0, 0)
-}
 
-// How many samples a frame of the bed has; 0 where it can't have so many channels.
-pub fn length(s: &[u64; SIGNALS]) -> usize {
-    let channels = s[0];
-    if channels < 9 {
-        return FRAME * channels as usize;
+    // Those of a call for a bed of several channels: their number, which may be one that no bed has, the key's signal, and a signal of each of
+    // eight channels.
+    pub fn of_several(words: &mut Words) -> Result<Strands, EndsEarly> {
+        let channels = words.word()? as usize;
+        let key = Signal::from(words.array()?);
+        let mut bed = [key; MOST];
+        for signal in &mut bed {
+            *signal = Signal::from(words.array()?);
+        }
+        Ok(Strands { key, bed, channels })
     }
-    0
-}
 
-// Sample k of the bed: 480 of each channel, and of the last as many as are left.
-fn sample(s: &[u64; SIGNALS], first: u64, k: u64) -> f32 {
-    let channels = s[0];
-    let before = k / FRAME as u64;
-    if before < channels {
-        return signal(s, before + 1).sample(std::num::wrapping_add_u64(first, k % FRAME as u64));
+    // How many samples a frame of the bed has: none where it can't have so many channels.
+    pub fn bed_length(self) -> usize
+        ensures { (result ≡ cond (nat_le self.channels 8) (480 * self.channels) 0) × (result ≤ 3840) }
+    {
+        if self.channels <= MOST {
+            FRAME * self.channels
+        } else {
+            0
+        }
     }
-    let left = k - FRAME as u64 * channels;
-    signal(s, channels).sample(super::signal::next_frame(std::num::wrapping_add_u64(first, left)))
-}
 
-// The first n samples of the bed, where there is room for them.
-pub fn bed(s: &[u64; SIGNALS], first: u64, n: usize) -> [f32; BED] {
-    let mut x = [0.0f32; BED];
-    if BED < n {
-        return x;
+    // Sample k of a bed that begins with sample `first` of each channel: a frame of each, and of the last as many as are left. A bed without
+    // channels has the key's samples, from the next frame on.
+    fn bed_sample(self, first: u64, k: usize) -> f32 {
+        match self.channels.min(MOST).checked_sub(1) {
+            Some(last) => {
+                let channel = (k / FRAME).min(last);
+                self.bed[channel].sample(first.wrapping_add((k - FRAME * channel) as u64))
+            }
+            None => self
+                .key
+                .sample(signal::frame_start(first, 1).wrapping_add(k as u64)),
+        }
     }
-    let mut k = 0;
-    while k < n {
-        x[k] = sample(s, first, k as u64);
-        k += 1;
+
+    pub fn fill_bed(self, first: u64, to: &mut [f32]) {
+        for (k, x) in to.iter_mut().enumerate() {
+            *x = self.bed_sample(first, k);
+        }
     }
-    x
 }

@@ -1,9 +1,10 @@
-// The calls of standard input. Nothing is read ahead of a call's end, so that its answer can be written before the next one is there.
-ghost use Rattle.std.specs.Prelude.{◌≡◌, ◌*◌, ◌^◌, ◌<◌, ◌≤◌, min, length, from_bits};
+// The calls of standard input. Nothing is read ahead of a call's end, so that its answer can be written before the next one is there. What the input
+// doesn't have is None.
+ghost use Rattle.std.specs.Prelude.{◌≡◌, ◌*◌, ◌^◌, ◌<◌, min, from_bits};
 ghost use Rattle.std.specs.Float.{binary32};
 ghost use Rattle.blocks.specs.Words.{word4};
 
-use blocks::little_endian::{read4, read8};
+use blocks::little_endian::read4;
 
 // Samples that are kept of a strand: a frame's of eight channels, and one more.
 pub const STRAND: usize = 3841;
@@ -17,102 +18,52 @@ pub const IMAGE: usize = image::BYTES + 1;
 // Words of the places that are kept of a layout: those of eight channels.
 pub const PLACES: usize = 24;
 
-// What a call begins with.
-#[derive(Clone, Copy)]
-pub enum Letter {
-    Frame,
-    Settings,
-    Reset,
-    Layout,
-    Save,
-    Restore,
-    Unknown,
-    End,
+// Fills a slice.
+fn fill(rt: &HostRuntime, b: &mut [u8]) -> Option<()> {
+    (program::input::fill(&mut rt.stdin(), b) == b.len()).then_some(())
 }
 
-#[derive(Clone, Copy)]
-pub enum Word {
-    Found(u64),
-    End,
+// The next N bytes.
+fn next<const N: usize>(rt: &HostRuntime) -> Option<[u8; N]> {
+    let mut b = [0u8; N];
+    fill(rt, &mut b)?;
+    Some(b)
 }
 
-#[derive(Clone, Copy)]
-pub enum Count {
-    Found(u32),
-    End,
-}
-
-// Fills a slice, and answers whether the input had that much.
-fn fill(rt: &HostRuntime, b: &mut [u8]) -> bool {
-    program::input::fill(&mut rt.stdin(), b) == b.len()
-}
-
-pub fn next_letter(rt: &HostRuntime) -> Letter {
-    let mut b = [0u8; 1];
-    if fill(rt, &mut b) {
-        let first = b[0];
-        return match first {
-            b'F' => Letter::Frame,
-            b'S' => Letter::Settings,
-            b'R' => Letter::Reset,
-            b'B' => Letter::Layout,
-            b'V' => Letter::Save,
-            b'L' => Letter::Restore,
-            _ => Letter::Unknown,
-        };
-    }
-    Letter::End
+// The letter that the next call begins with.
+pub fn next_letter(rt: &HostRuntime) -> Option<u8> {
+    next(rt).map(u8::from_le_bytes)
 }
 
 // The next number of 32 bits.
-pub fn next_count(rt: &HostRuntime) -> Count {
-    let mut b = [0u8; 4];
-    if fill(rt, &mut b) {
-        return Count::Found(read4(&b, 0));
-    }
-    Count::End
+pub fn next_count(rt: &HostRuntime) -> Option<u32> {
+    next(rt).map(u32::from_le_bytes)
 }
 
 // The next number of 64 bits.
-pub fn next_word(rt: &HostRuntime) -> Word {
-    let mut b = [0u8; 8];
-    if fill(rt, &mut b) {
-        return Word::Found(read8(&b, 0));
-    }
-    Word::End
+pub fn next_word(rt: &HostRuntime) -> Option<u64> {
+    next(rt).map(u64::from_le_bytes)
 }
 
-// The next 12 words, and whether the input had them.
-pub fn next_words(rt: &HostRuntime, to: &mut [u64; 12]) -> bool {
-    let mut k: usize = 0;
-    while k < 12 {
-        let w = next_word(rt);
-        let Word::Found(n) = w else {
-            return false;
-        };
-        to[k] = n;
-        k += 1;
+// The next 12 words.
+pub fn next_words(rt: &HostRuntime) -> Option<[u64; 12]> {
+    let mut words = [0u64; 12];
+    for w in &mut words {
+        *w = next_word(rt)?;
     }
-    true
+    Some(words)
 }
 
-// The next `count` times three words, of which those of the first eight channels are kept, and whether the input had them.
-pub fn next_places(rt: &HostRuntime, count: u32, to: &mut [u64; PLACES]) -> bool {
-    let words = 3 * count as u64;
-    let mut k: u64 = 0;
-    while k < words {
-        let w = next_word(rt);
-        let Word::Found(n) = w else {
-            return false;
-        };
+// The next `count` times three words, of which those of the first eight channels are kept.
+pub fn next_places(rt: &HostRuntime, count: u32) -> Option<[u64; PLACES]> {
+    let mut places = [0u64; PLACES];
+    for k in 0..3 * u64::from(count) {
+        let w = next_word(rt)?;
         if k < 24 {
-            to[k as usize] = n;
-            k += 1;
-        } else {
-            k += 1;
+            places[k as usize] = w;
         }
     }
-    true
+    Some(places)
 }
 
 // Sample k.
@@ -123,67 +74,46 @@ fn sample(b: &[u8; BYTES], k: usize) -> f32
     float::from_bits32(read4(b, 4 * k))
 }
 
-// The first n samples.
-fn samples(b: &[u8; BYTES], n: usize, to: &mut [f32; STRAND])
-    requires { n ≤ 3841 }
-{
-    let mut k: usize = 0;
-    while k < n {
-        to[k] = sample(b, k);
-        k += 1;
-    }
-}
-
 // How many of `count` are kept where there is room for `most`.
 pub fn kept(count: u64, most: usize) -> usize
     ensures { result ≡ min count most }
 {
-    if count < most as u64 {
-        return count as usize;
-    }
-    most
+    count.min(most as u64) as usize
 }
 
-// Fills the first n bytes, and answers whether the input had them.
-fn part(rt: &HostRuntime, b: &mut [u8], n: usize) -> bool
-    requires { n ≤ length b.old }
-{
-    fill(rt, &mut b[..n])
-}
-
-// Reads past bytes.
-fn skip(rt: &HostRuntime, b: &mut [u8; BYTES], count: u64) -> bool {
+// Reads past bytes. A while, since the parts are of two lengths: as many as there is room for, and what is left at the end.
+fn skip(rt: &HostRuntime, b: &mut [u8; BYTES], count: u64) -> Option<()> {
     let mut left = count;
     while 0 < left {
         let n = kept(left, BYTES);
-        if part(rt, b, n) {
-            left -= n as u64;
-        } else {
-            return false;
-        }
+        fill(rt, &mut b[..n])?;
+        left -= n as u64;
     }
-    true
+    Some(())
 }
 
-// The next strand, of which the first `kept(count, STRAND)` samples are kept, and whether the input had it.
-pub fn next_strand(rt: &HostRuntime, count: u64, to: &mut [f32; STRAND]) -> bool
-    requires { count < 2 ^ 32 }
-{
+// The next strand, of which the first `kept(count, STRAND)` samples are kept: they are put at the start of `to`.
+pub fn next_strand<'a>(
+    rt: &HostRuntime,
+    count: u32,
+    to: &'a mut [f32; STRAND],
+) -> Option<&'a [f32]> {
     let mut b = [0u8; BYTES];
+    let count = u64::from(count);
     let n = kept(count, STRAND);
-    if part(rt, &mut b, 4 * n) {
-        samples(&b, n, to);
-        return skip(rt, &mut b, 4 * (count - n as u64));
+    fill(rt, &mut b[..4 * n])?;
+    for k in 0..n {
+        to[k] = sample(&b, k);
     }
-    false
+    skip(rt, &mut b, 4 * (count - n as u64))?;
+    Some(&to[..n])
 }
 
-// The next `count` bytes, of which the first `kept(count, IMAGE)` are kept, and whether the input had them.
-pub fn next_image(rt: &HostRuntime, count: u64, to: &mut [u8; IMAGE]) -> bool {
+// The next `count` bytes, of which the first `kept(count, IMAGE)` are kept: they are put at the start of `to`.
+pub fn next_image<'a>(rt: &HostRuntime, count: u64, to: &'a mut [u8; IMAGE]) -> Option<&'a [u8]> {
     let mut b = [0u8; BYTES];
     let n = kept(count, IMAGE);
-    if part(rt, to, n) {
-        return skip(rt, &mut b, count - n as u64);
-    }
-    false
+    fill(rt, &mut to[..n])?;
+    skip(rt, &mut b, count - n as u64)?;
+    Some(&to[..n])
 }

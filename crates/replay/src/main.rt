@@ -15,272 +15,138 @@
 mod answers;
 mod input;
 
-ghost use Rattle.std.specs.Prelude.{◌≤◌, length};
-
-use chain::{Chain, Changed, Framed, Verdict};
-use input::{Count, IMAGE, Letter, PLACES, STRAND, Word};
-use std::io;
+use chain::{Chain, Changed};
+use input::{IMAGE, STRAND};
 use std::io::ErrorKind;
+use std::{fmt, io};
 
-const TWO_32: u64 = 4294967296;
-
-// How a call ended.
-#[derive(Clone, Copy)]
-enum Ending {
-    Answered,
-    NoCall,
+// Why a call isn't answered.
+#[derive(Drop)]
+enum Failure {
     Unknown,
+    // The input ends within the call.
     Short,
-    Unwritten,
-    Unread, // nobody reads the answers any more
+    Unwritten(io::Error),
 }
 
-// The chain after a call.
-#[derive(Clone, Copy)]
-struct Step {
-    chain: Chain,
-    ending: Ending,
+impl From<io::Error> for Failure {
+    fn from(why: io::Error) -> Failure {
+        Failure::Unwritten(why)
+    }
 }
 
-// How the list ended, and the number of the call at which it did, from 1.
-#[derive(Clone, Copy)]
+// The call that isn't answered, counted from 1.
+#[derive(Drop)]
 struct Stopped {
-    ending: Ending,
     call: u64,
+    why: Failure,
 }
 
-fn ended(written: io::Result<()>) -> Ending {
-    match written {
-        Ok(()) => Ending::Answered,
-        Err(e) if e.kind() == ErrorKind::BrokenPipe => Ending::Unread,
-        Err(_) => Ending::Unwritten,
-    }
-}
-
-// The frame of the first samples of two strands.
-fn run(
-    chain: Chain,
-    key: &[f32; STRAND],
-    key_count: usize,
-    bed: &[f32; STRAND],
-    bed_count: usize,
-) -> Framed
-    requires { (key_count ≤ 3841) × (bed_count ≤ 3841) }
-{
-    let k: &[f32] = key;
-    let b: &[f32] = bed;
-    freightpetal::frame(chain, &k[..key_count], &b[..bed_count])
-}
-
-// The answer to a frame of two strands.
-fn answered(
-    rt: &HostRuntime,
-    chain: Chain,
-    key: &[f32; STRAND],
-    key_count: u64,
-    bed: &[f32; STRAND],
-    bed_count: u64,
-) -> Step {
-    let f = run(
-        chain,
-        key,
-        input::kept(key_count, STRAND),
-        bed,
-        input::kept(bed_count, STRAND),
-    );
-    let outcome = f.outcome;
-    let next = f.chain;
-    Step {
-        chain: next,
-        ending: ended(answers::frame(rt, outcome)),
-    }
-}
-
-// The input ends within a call.
-fn short(chain: Chain) -> Step {
-    Step {
-        chain,
-        ending: Ending::Short,
+impl fmt::Display for Stopped {
+    fn fmt<W: fmt::Write>(&self, f: &mut fmt::Formatter<W>) -> fmt::Result {
+        let call = self.call;
+        match &self.why {
+            Failure::Unknown => write!(f, "call {call} is none of F, S, R, B, V and L"),
+            Failure::Short => write!(f, "the input ends within call {call}"),
+            Failure::Unwritten(_) => write!(f, "the answer to call {call} could not be written"),
+        }
     }
 }
 
 // F. Of a strand of more than 3,841 samples 3,841 are kept, and the chain refuses these alike.
-fn frame(rt: &HostRuntime, chain: Chain) -> Step {
+fn frame(rt: &HostRuntime, chain: Chain) -> Result<Chain, Failure> {
     let mut key = [0.0f32; STRAND];
     let mut bed = [0.0f32; STRAND];
-    let w = input::next_word(rt);
-    let Word::Found(counts) = w else {
-        return short(chain);
-    };
-    let key_count = counts % TWO_32;
-    let bed_count = counts / TWO_32;
-    if input::next_strand(rt, key_count, &mut key) {
-        if input::next_strand(rt, bed_count, &mut bed) {
-            return answered(rt, chain, &key, key_count, &bed, bed_count);
-        }
-    }
-    short(chain)
+    let key_count = input::next_count(rt).ok_or(Failure::Short)?;
+    let bed_count = input::next_count(rt).ok_or(Failure::Short)?;
+    let key = input::next_strand(rt, key_count, &mut key).ok_or(Failure::Short)?;
+    let bed = input::next_strand(rt, bed_count, &mut bed).ok_or(Failure::Short)?;
+    let f = freightpetal::frame(chain, key, bed);
+    answers::frame(rt, f.outcome)?;
+    Ok(f.chain)
 }
 
 // The answer to a settings call, a reset, a layout call or a restore.
-fn changed(rt: &HostRuntime, c: Changed) -> Step {
-    let verdict = c.verdict;
-    let next = c.chain;
-    Step {
-        chain: next,
-        ending: ended(answers::verdict(rt, verdict)),
-    }
+fn changed(rt: &HostRuntime, c: Changed) -> Result<Chain, Failure> {
+    answers::verdict(rt, c.verdict)?;
+    Ok(c.chain)
 }
 
 // S.
-fn set(rt: &HostRuntime, chain: Chain) -> Step {
-    let mut words = [0u64; 12];
-    if input::next_words(rt, &mut words) {
-        return changed(rt, freightpetal::set(chain, words::settings(&words)));
-    }
-    short(chain)
+fn set(rt: &HostRuntime, chain: Chain) -> Result<Chain, Failure> {
+    let w = input::next_words(rt).ok_or(Failure::Short)?;
+    changed(rt, freightpetal::set(chain, words::settings(&w)))
 }
 
 // R.
-fn reset(rt: &HostRuntime, chain: Chain) -> Step {
-    let w = input::next_word(rt);
-    let Word::Found(strand) = w else {
-        return short(chain);
-    };
+fn reset(rt: &HostRuntime, chain: Chain) -> Result<Chain, Failure> {
+    let strand = input::next_word(rt).ok_or(Failure::Short)?;
     changed(rt, freightpetal::reset(chain, strand))
 }
 
 // B. Of more than eight channels the places of eight are kept, and the chain refuses the layout by its count.
-fn layout(rt: &HostRuntime, chain: Chain) -> Step {
-    let c = input::next_count(rt);
-    let Count::Found(count) = c else {
-        return short(chain);
-    };
-    let mut places = [0u64; PLACES];
-    if input::next_places(rt, count, &mut places) {
-        return changed(
-            rt,
-            freightpetal::layout(chain, words::layout(count as u64, &places)),
-        );
-    }
-    short(chain)
-}
-
-// The first n bytes are lent for a save.
-fn save_in(chain: Chain, lent: &mut [u8], n: usize) -> Verdict
-    requires { n ≤ length lent.old }
-{
-    freightpetal::save(chain, &mut lent[..n])
+fn layout(rt: &HostRuntime, chain: Chain) -> Result<Chain, Failure> {
+    let count = input::next_count(rt).ok_or(Failure::Short)?;
+    let places = input::next_places(rt, count).ok_or(Failure::Short)?;
+    let layout = words::layout(u64::from(count), &places);
+    changed(rt, freightpetal::layout(chain, layout))
 }
 
 // V. Of a buffer of more than 11,265 bytes 11,265 are lent, and both are refused alike.
-fn save(rt: &HostRuntime, chain: Chain) -> Step {
-    let c = input::next_count(rt);
-    let Count::Found(count) = c else {
-        return short(chain);
-    };
+fn save(rt: &HostRuntime, chain: Chain) -> Result<Chain, Failure> {
+    let count = input::next_count(rt).ok_or(Failure::Short)?;
     let mut lent = [0u8; IMAGE];
-    let verdict = save_in(chain, &mut lent, input::kept(count as u64, IMAGE));
-    Step {
-        chain,
-        ending: ended(answers::saved(rt, verdict, &lent)),
-    }
-}
-
-// The first n bytes are restored.
-fn restore_of(chain: Chain, bytes: &[u8; IMAGE], n: usize) -> Changed
-    requires { n ≤ 11265 }
-{
-    let b: &[u8] = bytes;
-    freightpetal::restore(chain, &b[..n])
+    let n = input::kept(u64::from(count), IMAGE);
+    let verdict = freightpetal::save(chain, &mut lent[..n]);
+    answers::saved(rt, verdict, &lent)?;
+    Ok(chain)
 }
 
 // L. Of more than 11,265 bytes 11,265 are kept, and the restore refuses both alike.
-fn restore(rt: &HostRuntime, chain: Chain) -> Step {
-    let c = input::next_count(rt);
-    let Count::Found(count) = c else {
-        return short(chain);
-    };
+fn restore(rt: &HostRuntime, chain: Chain) -> Result<Chain, Failure> {
+    let count = input::next_count(rt).ok_or(Failure::Short)?;
     let mut bytes = [0u8; IMAGE];
-    if input::next_image(rt, count as u64, &mut bytes) {
-        return changed(
-            rt,
-            restore_of(chain, &bytes, input::kept(count as u64, IMAGE)),
-        );
-    }
-    short(chain)
+    let bytes = input::next_image(rt, u64::from(count), &mut bytes).ok_or(Failure::Short)?;
+    changed(rt, freightpetal::restore(chain, bytes))
 }
 
-// The next call.
-fn call(rt: &HostRuntime, chain: Chain) -> Step {
-    let letter = input::next_letter(rt);
+// The call that begins with a letter.
+fn call(rt: &HostRuntime, chain: Chain, letter: u8) -> Result<Chain, Failure> {
     match letter {
-        Letter::Frame => frame(rt, chain),
-        Letter::Settings => set(rt, chain),
-        Letter::Reset => reset(rt, chain),
-        Letter::Layout => layout(rt, chain),
-        Letter::Save => save(rt, chain),
-        Letter::Restore => restore(rt, chain),
-        Letter::Unknown => Step {
-            chain,
-            ending: Ending::Unknown,
-        },
-        Letter::End => Step {
-            chain,
-            ending: Ending::NoCall,
-        },
+        b'F' => frame(rt, chain),
+        b'S' => set(rt, chain),
+        b'R' => reset(rt, chain),
+        b'B' => layout(rt, chain),
+        b'V' => save(rt, chain),
+        b'L' => restore(rt, chain),
+        _ => Err(Failure::Unknown),
     }
 }
 
 // All calls, up to the one that isn't answered.
-fn calls(rt: &HostRuntime) -> Stopped {
+fn calls(rt: &HostRuntime) -> Result<(), Stopped> {
     let mut chain = freightpetal::new();
-    let mut number: u64 = 1;
-    let mut turns = u64::MAX;
-    while 0 < turns {
-        let s = call(rt, chain);
-        let ending = s.ending;
-        let Ending::Answered = ending else {
-            return Stopped {
-                ending,
-                call: number,
-            };
+    for number in 1..u64::MAX {
+        let Some(letter) = input::next_letter(rt) else {
+            break;
         };
-        let next = s.chain;
-        chain = next;
-        number = std::num::wrapping_add_u64(number, 1);
-        turns -= 1;
+        chain = call(rt, chain, letter).map_err(|why| Stopped { call: number, why })?;
     }
-    Stopped {
-        ending: Ending::NoCall,
-        call: number,
-    }
+    Ok(())
 }
 
-// A line on standard error.
-fn complain(rt: &HostRuntime, before: &str, call: u64, after: &str) {
-    let _ = eprintln!(rt; "{before}{call}{after}");
-}
-
+// What stops the calls is said on standard error, but that nobody reads the answers any more.
 fn main(rt: HostRuntime) {
-    let s = calls(&rt);
-    let ending = s.ending;
-    match ending {
-        Ending::Answered => {}
-        Ending::NoCall => {}
-        Ending::Unread => {}
-        Ending::Unknown => complain(
-            &rt,
-            "replay: call ",
-            s.call,
-            " is none of F, S, R, B, V and L",
-        ),
-        Ending::Short => complain(&rt, "replay: the input ends within call ", s.call, ""),
-        Ending::Unwritten => complain(
-            &rt,
-            "replay: the answer to call ",
-            s.call,
-            " could not be written",
-        ),
+    match calls(&rt) {
+        Err(
+            Stopped {
+                why: Failure::Unwritten(e),
+                ..
+            },
+        ) if e.kind() == ErrorKind::BrokenPipe => {}
+        Err(stopped) => {
+            let _ = eprintln!(rt; "replay: {stopped}");
+        }
+        Ok(()) => {}
     }
 }

@@ -2,10 +2,11 @@
 #![tactic(auto)]
 
 ghost use Rattle.std.specs.Prelude.{◌≡◌, true, ◌*◌, ◌^◌, ◌≤◌, ◌<◌};
+ghost use Rattle.float.specs.Kind.{InRange};
 ghost use Rattle.root.specs.Root.{root_of_units, sqrt_of};
 ghost use Rattle.root.specs.Steps.{IsRoot, Stepped, Near};
 
-use float::Kind;
+use float::{Kind, Parts};
 
 const HIDDEN: u64 = 4503599627370496; // 2^52
 
@@ -22,87 +23,40 @@ struct Part {
     rem: u64,
 }
 
-// Two more binary digits are brought down. `floor_root` shows the bounds.
-fn step(root: u64, rem: u64, two: u64) -> Part
-    requires { (rem ≤ 2 * root) × (root < 2 ^ 54) × (two < 4) }
-    ensures { Stepped root rem two result.root result.rem }
-{
-    let r = rem * 4 + two;
-    let t = root * 4 + 1;
-    if r >= t {
-        return Part {
-            root: root * 2 + 1,
-            rem: r - t,
-        };
-    }
-    Part {
-        root: root * 2,
-        rem: r,
+impl Part {
+    // Two more binary digits are brought down. `floor_root` shows the bounds.
+    fn step(self, two: u64) -> Part
+        requires { (self.rem ≤ 2 * self.root) × (self.root < 2 ^ 54) × (two < 4) }
+        ensures { Stepped self.root self.rem two result.root result.rem }
+    {
+        let r = self.rem * 4 + two;
+        let t = self.root * 4 + 1;
+        if r >= t {
+            Part {
+                root: self.root * 2 + 1,
+                rem: r - t,
+            }
+        } else {
+            Part {
+                root: self.root * 2,
+                rem: r,
+            }
+        }
     }
 }
 
-// The root of a * 2^54, cut to a whole number: 54 digits of a, then 54 zeros. `nearest_slow` shows the bound.
+// The root of a * 2^54, cut to a whole number: 54 digits of a, then 54 zeros. `Radicand::nearest_slow` shows the bound.
 fn floor_root(a: u64) -> u64
     requires { a < 2 ^ 54 }
     ensures { IsRoot (a * 2 ^ 54) result }
 {
-    let mut root = 0u64;
-    let mut rem = 0u64;
+    let mut part = Part { root: 0, rem: 0 };
     let mut rest = a;
-    let mut i = 0u64;
-    while i < 54 {
-        let p = step(root, rem, rest / HIDDEN);
-        root = p.root;
-        rem = p.rem;
+    for _ in 0..54u64 {
+        part = part.step(rest / HIDDEN);
         rest = rest % HIDDEN * 4;
-        i += 1;
     }
-    root
-}
-
-// The whole number nearest to the root of a * 2^52, digit by digit. `nearest_root` shows the bounds.
-fn nearest_slow(a: u64) -> u64
-    requires { (2 ^ 52 ≤ a) × (a < 2 ^ 54) }
-    ensures { Near a result }
-{
-    (floor_root(a) + 1) / 2
-}
-
-// Whether q is nearest to the root of a * 2^52: a * 2^52 - q * q is more than -q and at most q. `nearest_root` shows the bounds.
-// With q = h * 2^26 + l the difference is ((a - h * h) * 2^25 - h * l) * 2^27 - l * l. The bracket is below 2^30 in size, and f is
-// the bracket plus 2^30, so that no difference here is below zero; 2^57 is that 2^30 times 2^27.
-fn is_near(a: u64, q: u64) -> bool
-    requires { (a < 2 ^ 54) × (2 ^ 52 ≤ q) × (q ≤ 2 ^ 53) }
-    ensures { result ≡ true → Near a q }
-{
-    let h = q / HALF;
-    let l = q % HALF;
-    let p = h * h;
-    if a < p {
-        return false;
-    }
-    let m = a - p;
-    if m >= 1073741824 {
-        return false;
-    }
-    let e = m * 33554432 + 1073741824;
-    let x = h * l;
-    if e < x {
-        return false;
-    }
-    let f = e - x;
-    if f >= 2147483648 {
-        return false;
-    }
-    let t = f * 134217728;
-    let u = l * l + 144115188075855872;
-    if t + q <= u {
-        return false;
-    }
-    if t <= u + q {
-        return true;
-    }
-    false
+    part.root
 }
 
 // A guess at the root of y, from 1 to 4: a cubic, two of Newton's steps, and a correction by the rest of a shortened root's square.
@@ -116,37 +70,84 @@ fn guess(y: f64) -> f64 {
     c + (y - c * c) / (c + g)
 }
 
-// The whole number nearest to the root of a * 2^52. `root_of` shows the bounds.
-fn nearest_root(a: u64) -> u64
-    requires { (2 ^ 52 ≤ a) × (a < 2 ^ 54) }
-    ensures { Near a result }
-{
-    let odd = a / (2 * HIDDEN);
-    let g = guess(f64::from_bits((1022 + odd) * HIDDEN + (a >> odd)));
-    if g > 0.0 {
-        let b = f64::to_bits(g);
-        if b >= ONE {
-            if b <= TWO {
+// 53 or 54 binary digits, of which the root is taken.
+#[derive(Clone, Copy)]
+struct Radicand {
+    a: u64,
+    ghost range: { (2 ^ 52 ≤ a) × (a < 2 ^ 54) },
+}
+
+impl Radicand {
+    // The whole number nearest to the root of a * 2^52, digit by digit.
+    fn nearest_slow(self) -> u64
+        ensures { Near self.a result }
+    {
+        (floor_root(self.a) + 1) / 2
+    }
+
+    // Whether q is nearest to the root of a * 2^52: a * 2^52 - q * q is more than -q and at most q. `nearest` shows the bounds.
+    // With q = h * 2^26 + l the difference is ((a - h * h) * 2^25 - h * l) * 2^27 - l * l. The bracket is below 2^30 in size, and f is
+    // the bracket plus 2^30, so that no difference here is below zero; 2^57 is that 2^30 times 2^27.
+    fn is_near(self, q: u64) -> bool
+        requires { (2 ^ 52 ≤ q) × (q ≤ 2 ^ 53) }
+        ensures { result ≡ true → Near self.a q }
+    {
+        let h = q / HALF;
+        let l = q % HALF;
+        let p = h * h;
+        if self.a < p {
+            return false;
+        }
+        let m = self.a - p;
+        if m >= 1073741824 {
+            return false;
+        }
+        let e = m * 33554432 + 1073741824;
+        let x = h * l;
+        if e < x {
+            return false;
+        }
+        let f = e - x;
+        if f >= 2147483648 {
+            return false;
+        }
+        let t = f * 134217728;
+        let u = l * l + 144115188075855872;
+        if t + q <= u {
+            return false;
+        }
+        t <= u + q
+    }
+
+    // The whole number nearest to the root of a * 2^52.
+    fn nearest(self) -> u64
+        ensures { Near self.a result }
+    {
+        let odd = self.a / (2 * HIDDEN);
+        let g = guess(f64::from_bits((1022 + odd) * HIDDEN + (self.a >> odd)));
+        if g > 0.0 {
+            let b = g.to_bits();
+            if (ONE..=TWO).contains(&b) {
                 let q = b - (ONE - HIDDEN);
-                if is_near(a, q) {
+                if self.is_near(q) {
                     return q;
                 }
             }
         }
+        self.nearest_slow()
     }
-    nearest_slow(a)
 }
 
-// The root of sig * 2^exp units of 2^-1074. The value is a * 2^t * 2^-52 units, with 53 digits in a; where t is odd, a takes one digit of it.
+// The root of p.sig * 2^p.exp units of 2^-1074. The value is a * 2^t * 2^-52 units, with 53 digits in a; where t is odd, a takes one digit of it.
 // So the root is that of a * 2^52, times 2^(t / 2 + 485) units. `sqrt` shows the bounds.
-fn root_of(sig: u64, exp: u64) -> f64
-    requires { (0 < sig) × (sig < 2 ^ 53) × (exp < 2046) }
-    ensures { result ≡ root_of_units (sig * 2 ^ exp) }
+fn root_of(p: Parts) -> f64
+    requires { (0 < p.sig) × InRange p }
+    ensures { result ≡ root_of_units (p.sig * 2 ^ p.exp) }
 {
-    let s = u64::leading_zeros(sig) as u64 - 11;
-    let t = exp + 52 - s;
-    let a = (sig << s) * (1 + t % 2);
-    let q = nearest_root(a);
+    let s = u64::from(p.sig.leading_zeros()) - 11;
+    let t = p.exp + 52 - s;
+    let a = (p.sig << s) * (1 + t % 2);
+    let q = Radicand { a }.nearest();
     f64::from_bits((t / 2 + 485) * HIDDEN + q)
 }
 
@@ -156,20 +157,15 @@ pub fn sqrt(x: f64) -> f64
 {
     match float::classify(x) {
         Kind::NotANumber => x,
-        Kind::Infinite(negative) => {
-            if negative {
-                return 0.0 / 0.0;
-            }
-            x
-        }
+        Kind::Infinite(negative) => { if negative { f64::NAN } else { x } }
         Kind::Finite(p) => {
             if p.sig == 0 {
-                return x;
+                x
+            } else if p.negative {
+                f64::NAN
+            } else {
+                root_of(p)
             }
-            if p.negative {
-                return 0.0 / 0.0;
-            }
-            root_of(p.sig, p.exp)
         }
     }
 }

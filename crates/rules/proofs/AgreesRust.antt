@@ -23,7 +23,7 @@ use Rattle.channels.specs.Surround.{resting_others, resting_of, bed_frame_of}
 use Rattle.channels.specs.Deque.{Meters, meters_next, meters_reading, bed_meters}
 use Rattle.channels.specs.Heard.{channels_of, channels_in}
 use Rattle.layout.proofs.Used.{few-used}
-use Rattle.channels.proofs.Layouts.{take-replicate}
+use Rattle.std.proofs.lemmas.List.{take-replicate}
 use Rattle.channels.proofs.Promised.{bed-laws}
 use Rattle.detector.specs.Detector as detector
 use Rattle.vad.specs.declared.Framed as heard
@@ -100,7 +100,7 @@ new-holds d p = record {
 -- a new level of a layout
 new_bedded : (l : Layout) → Bedded (resting_of l) level.fresh_of (model.new_bed l)
 unfolding resting_others
-new_bedded l = λ i. record { channels = sym (take-replicate resting (channels_of l) most (few-used l)) i; frames = [] }
+new_bedded l = λ i. record { channels = sym (take-replicate (channels_of l) most resting (few-used l)) i; frames = [] }
 
 pub like_new : Like fresh_of model.new_chain
 like_new = record {

@@ -1,4 +1,5 @@
 -- Every number of a valid chain is finite.
+use Rattle.std.specs.Prelude.{Option, Some, None, IfSome, option_to_list}
 use Prim.Native.Nat.{ℕ, suc, ◌-◌}
 use mathlib.Core.Path.{◌≡◌, refl, subst, sym}
 use mathlib.Core.Bool.{Bool, true, false}
@@ -20,12 +21,8 @@ use Rattle.channels.specs.Channels.{resting}
 use Rattle.channels.specs.Surround.{other_channels}
 use Rattle.channels.specs.Valid.{ChannelValid, SurroundValid}
 use Rattle.detector.specs.declared.FeatureDetector.{FeatureDetector}
-use Rattle.detector.specs.declared.floor.Smoothed.{Smoothed}
-use Rattle.detector.specs.declared.floor.Smoothed.TheVariants as smoothed
 use Rattle.detector.specs.Valid as detector
 use Rattle.vad.specs.declared.VadSettings.{VadSettings}
-use Rattle.vad.specs.declared.SpeechPower.{SpeechPower}
-use Rattle.vad.specs.declared.SpeechPower.TheVariants as speech
 use Rattle.vad.specs.declared.Strand.{Strand}
 use Rattle.vad.specs.Valid as strand
 use Rattle.level.proofs.Finite.{Alls, none, ◌more◌, ◌and◌, all-finite}
@@ -37,7 +34,7 @@ use Rattle.settings.specs.Settings.{image_ranges}
 use Rattle.chain.specs.declared.Chain.{Chain}
 use Rattle.chain.specs.Valid.{Valid}
 use Rattle.settings.specs.Valid.{StrandSettingsValid, SettingsValid}
-use Rattle.chain.specs.Numbers.{of_strand_settings, of_settings, of_loops, of_level, of_smoothed, of_detector, of_power, of_strand, of_channel, of_channels, numbers_of}
+use Rattle.chain.specs.Numbers.{of_strand_settings, of_settings, of_loops, of_level, of_detector, of_strand, of_channel, of_channels, numbers_of}
 
 -- ---- lists
 
@@ -70,13 +67,9 @@ zero32_finite = tt
 strand-settings : (r : Ranges) (s : VadSettings) → StrandSettingsValid r s → Alls (of_strand_settings s)
 strand-settings r s v = v.threshold.number.0 more v.hold_ms.number.0 more v.gate_lufs.number.0 more none
 
-power : (p : SpeechPower) → strand.PowerValid p → Alls (of_power p)
-power speech.Unset v = none
-power (speech.At x) v = v.0 more none
-
-smooth : (s : Smoothed) → detector.SmoothedValid s → Alls (of_smoothed s)
-smooth smoothed.Unset v = none
-smooth (smoothed.At x) v = v.0 more none
+maybe : (o : Option Float) → IfSome o (Num binary64) → Alls (option_to_list o)
+maybe None v = none
+maybe (Some x) v = v.0 more none
 
 pub of-level : (l : Level) → level.Valid l → Alls (of_level l)
 of-level l v =
@@ -90,7 +83,7 @@ of-detector d v =
     (f.high_pass.z1.0 more f.high_pass.z2.0 more f.low_pass.z1.0 more f.low_pass.z2.0
     more f.pitch1.z1.0 more f.pitch1.z2.0 more f.pitch2.z1.0 more f.pitch2.z2.0 more none)
     and counted binary32 (of_bits binary32 0) 240 d.decimated.count d.decimated.list zero32_finite v.decimated
-    and smooth d.floor.smoothed v.floor.smoothed
+    and maybe d.floor.smoothed v.floor.smoothed
     and least
     and counted binary64 zero64 8 d.floor.minima.count d.floor.minima.list zero-finite v.floor.minima
     and counted binary64 zero64 40 d.history.count d.history.list zero-finite v.history
@@ -99,7 +92,7 @@ pub of-strand : (t : Strand) → strand.Valid t → Alls (of_strand t)
 of-strand t v =
     of-level t.level v.level
     and of-detector t.detector v.detector
-    and (v.decision.probability.0 more power t.decision.power v.decision.power)
+    and (v.decision.probability.0 more maybe t.decision.power v.decision.power)
 
 pub of-settings : (s : Settings) → SettingsValid image_ranges s → Alls (of_settings s)
 of-settings s v =

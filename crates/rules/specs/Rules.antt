@@ -1,5 +1,6 @@
 -- The specification's rules for frames, settings calls, resets and layout calls, and the port: what the four functions do, as their contracts say it.
-use Rattle.std.specs.Prelude.{ℕ, Bool, cond, not, ◌||◌, List, [], ◌∷◌, T, eqb, length, Float}
+use Rattle.refusal.specs.declared.Refusal.{Refusal}
+use Rattle.std.specs.Prelude.{ℕ, Bool, cond, not, ◌||◌, List, [], ◌∷◌, T, eqb, length, Float, Result, Ok, Err}
 use Rattle.std.specs.Float.{binary64}
 use Rattle.std.specs.Float.Ieee.{fits}
 use Rattle.refusal.specs.declared.Refusal.TheVariants.{ShortFrame, BadSample, BadSetting, Runaway, CounterFull, NoStrand, BadLayout}
@@ -14,11 +15,7 @@ use Rattle.ratio.specs.declared.Duck.{Duck}
 use Rattle.settings.specs.declared.Settings.{Settings}
 use Rattle.chain.specs.declared.Chain.{Chain}
 use Rattle.chain.specs.declared.Answer.{Answer}
-use Rattle.chain.specs.declared.Outcome.{Outcome}
-use Rattle.chain.specs.declared.Outcome.TheVariants as outcome
 use Rattle.chain.specs.declared.Framed.{Framed}
-use Rattle.chain.specs.declared.Verdict.{Verdict}
-use Rattle.chain.specs.declared.Verdict.TheVariants as verdict
 use Rattle.chain.specs.declared.Changed.{Changed}
 use Rattle.settings.specs.Settings.{call_ranges, outside_settings, stored_of}
 use Rattle.chain.specs.Numbers.{numbers_of}
@@ -132,13 +129,13 @@ rules = record {
 
 -- ---- the port
 
-abbrev pub reply_of : Outcome → calls.Reply Answered
-reply_of (outcome.Passed a) = calls.passed (calls.answer (shown a))
-reply_of (outcome.Refused r) = calls.refusal (number_of r)
+abbrev pub reply_of : Result Answer Refusal → calls.Reply Answered
+reply_of (Ok a) = calls.passed (calls.answer (shown a))
+reply_of (Err r) = calls.refusal (number_of r)
 
-abbrev pub noted_of : Verdict → calls.Reply Answered
-noted_of verdict.Passed = calls.passed (calls.answer noted)
-noted_of (verdict.Refused r) = calls.refusal (number_of r)
+abbrev pub noted_of : Result Unit Refusal → calls.Reply Answered
+noted_of (Ok _) = calls.passed (calls.answer noted)
+noted_of (Err r) = calls.refusal (number_of r)
 
 abbrev pub after_frame : Framed → calls.Step Chain Answered
 after_frame f = calls.gets (reply_of f.outcome) [] f.chain

@@ -14,6 +14,7 @@ use Rattle.level.specs.declared.Joint.{Joint}
 use Rattle.level.specs.declared.Level.{Level}
 use Rattle.level.specs.Weighing.{run_of}
 use Rattle.level.specs.Bs1770.{mean}
+use Rattle.sequence.specs.Latest.{push_of}
 use Rattle.level.specs.Level as level
 use Rattle.level.specs.Valid.{Valid}
 use Rattle.level.proofs.Finite.{Alls, ◌and◌, all-finite, finite-all, only, parts, new-finite}
@@ -86,7 +87,7 @@ module _ (l : Level) (s : Surround) (xs : List Float) where
 
   abbrev numbers : List Float
   numbers =
-      let m = level.means_of (level.push_of l.powers j.power) in
+      let m = level.means_of (push_of l.powers j.power) in
       level.numbers_of j m (level.reading_of j m)
 
   all_after : own_of after ∷ f.surround.others ≡ channels.kept_in (own_of l ∷ s.others) run
@@ -117,7 +118,7 @@ module _ (l : Level) (s : Surround) (xs : List Float) where
   joint-fits = subst (λ (x : Float). T (fits binary64 x)) (sym fast-after) (fast-fits zero64 (used_weights f.surround.layout) (own_of after ∷ f.surround.others) zero-num.1)
 
   pub bed-tells : length l.powers.list ≡ 300 → Lists after (of_channels f.surround.others) (bed_fast after f.surround) → T f.framed.finite
-  unfolding bed_frame_of channels.joint_frame_of channels.finish_joint level.read_of level.means_of level.lufs_of level.push_of mean
+  unfolding bed_frame_of channels.joint_frame_of channels.finish_joint level.read_of level.means_of level.lufs_of push_of mean
   bed-tells n a =
       let stored = parts (of_channel (own_of after)) a.stored in
       let power = only (new-finite l.powers.count l.powers.list _ (omega (arith, n)) stored.1) in

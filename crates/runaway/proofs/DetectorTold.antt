@@ -1,5 +1,7 @@
 -- The detector's flag against the lists: what it says of the powers, the variance, the lags' products and the pitch outputs, and that it holds where
 -- they and the stored numbers are finite. The lags' flag is that of their products, by induction on the lags.
+use Rattle.sequence.specs.Latest.{push_of}
+use Rattle.std.specs.Prelude.{option_to_list}
 use Prim.Native.Nat.{ℕ, zero, suc, ◌+◌}
 use native.Mathlib.Omega.{arith}
 use mathlib.Core.Path.{◌≡◌, refl, subst, sym, ◌∙◌}
@@ -20,14 +22,13 @@ use Rattle.detector.specs.declared.floor.Floor.{Floor}
 use Rattle.detector.specs.declared.FeatureDetector.{FeatureDetector}
 use Rattle.detector.specs.declared.Heard.{Heard}
 use Rattle.detector.specs.Filters.{begun, states_of, run_of, outputs_of, eighths, kept_of, keep_of}
-use Rattle.detector.specs.Floor.{minima_of, next_of, stored_of, floor_of}
-use Rattle.detector.specs.Modulation.{history_of, modulation_of}
+use Rattle.detector.specs.Floor.{next_of, stored_of, floor_of}
+use Rattle.detector.specs.Modulation.{modulation_of}
 use Rattle.detector.specs.Voicing.{tiny, energy_of, correlation_of, energies_at, with_ratio, without, turn_of, lag_of, lags_of, silent, ends_of, start_of, uneven_of, window_of, voicing_of}
 use Rattle.detector.specs.Detector.{powers_of, numbers_of, finish_of, frame_of}
 use Rattle.detector.specs.Valid.{Valid}
 use Rattle.detector.proofs.Decimation.{kept-length}
 use Rattle.detector.proofs.Finished.{samples-all}
-use Rattle.chain.specs.Numbers.{of_smoothed}
 use Rattle.chain.specs.Numbers as stored
 use Rattle.runaway.specs.Runaway.{of_bands, head_tails, of_window, of_voicing, of_detector}
 use Rattle.level.proofs.Finite.{Alls, none, ◌more◌, ◌and◌, all-finite, finite-all, only, parts, new-finite}
@@ -97,12 +98,12 @@ voicing_are xs = go (ltb (length xs) 240)
 
 module _ (f : Floor) (s m : Float) where
   floor-tells : length f.minima.list ≡ 8
-      → Alls (of_smoothed (stored_of f s m).smoothed) → Alls ((stored_of f s m).window_min ∷ []) → Alls (stored_of f s m).minima.list
+      → Alls (option_to_list (stored_of f s m).smoothed) → Alls ((stored_of f s m).window_min ∷ []) → Alls (stored_of f s m).minima.list
       → T (finite s) × T (finite m)
-  unfolding stored_of minima_of
+  unfolding stored_of push_of
   floor-tells n = go (ltb f.window_frames 24)
     where
-      go : (b : Bool) → Alls (of_smoothed (next_of b f s m).smoothed) → Alls ((next_of b f s m).window_min ∷ []) → Alls (next_of b f s m).minima.list → T (finite s) × T (finite m)
+      go : (b : Bool) → Alls (option_to_list (next_of b f s m).smoothed) → Alls ((next_of b f s m).window_min ∷ []) → Alls (next_of b f s m).minima.list → T (finite s) × T (finite m)
       go true a w l = (only a, only w)
       go false a w l = (only a, only (new-finite f.minima.count f.minima.list (m ∷ []) (omega (arith, n)) l))
 
@@ -143,12 +144,12 @@ module _ (d : FeatureDetector) (s : Bands) (ys : List Float) where
 
   finish-tells : length d.decimated.list ≡ 240 → length d.floor.minima.list ≡ 8 → length d.history.list ≡ 40
       → Alls (stored.of_detector after) → Lists s ys after → T (finish_of d s ys).finite
-  unfolding finish_of powers_of modulation_of history_of keep_of floor_of
+  unfolding finish_of powers_of modulation_of push_of keep_of floor_of
   finish-tells n k m a t =
       let f = floor_of d.floor (powers_of s).e in
       let states = states_of s.filters in
       let decimated = (keep_of d.decimated (kept_of ys)).list in
-      let smooth = of_smoothed f.next.smoothed in
+      let smooth = option_to_list f.next.smoothed in
       let least = f.next.window_min ∷ [] in
       let minima = f.next.minima.list in
       let five = parts (states ++ decimated ++ smooth ++ least ++ minima) a in

@@ -1,4 +1,7 @@
 -- A frame is refused with 4 exactly where a number of the lists isn't finite: the flags of key, bed and ducker are those of their lists.
+use Rattle.chain.specs.declared.Answer.{Answer}
+use Rattle.refusal.specs.declared.Refusal.{Refusal}
+use Rattle.std.specs.Prelude.{Result, Ok, Err}
 use Prim.Native.Nat.{ℕ}
 use mathlib.Core.Path.{◌≡◌, refl, sym, ap, ◌∙◌}
 use mathlib.Core.Bool.{Bool, true, false, ◌&&◌}
@@ -18,8 +21,6 @@ use Rattle.refusal.specs.Table.{number_of, first_number}
 use Rattle.level.specs.Bs1770.{frame_length}
 use Rattle.float.specs.AllFinite.{all_finite}
 use Rattle.chain.specs.declared.Chain.{Chain}
-use Rattle.chain.specs.declared.Outcome.{Outcome}
-use Rattle.chain.specs.declared.Outcome.TheVariants as outcome
 use Rattle.chain.specs.declared.Worked.{Worked}
 use Rattle.chain.specs.Chain.{inputs_of, first_channel, work_of, answer_of, refused_of, passed_of, finite_in, full_in, judged_of, channel_count, bed_length, frame_of}
 use Rattle.chain.specs.StrandFrames.{Whole}
@@ -149,9 +150,9 @@ module _ (c : Chain) (w : Worked) where
   numbered : (x y p q f g : Bool) → Tested x y p q f → first_number (rows c w x y p q f g) ≡ number_of Runaway
   numbered x y p q f g t = rw (t.key_length, t.bed_length, t.key_samples, t.bed_samples, t.runs_away)
 
-  abbrev code_of : Outcome → ℕ
-  code_of (outcome.Passed a) = 0
-  code_of (outcome.Refused r) = number_of r
+  abbrev code_of : Result Answer Refusal → ℕ
+  code_of (Ok a) = 0
+  code_of (Err r) = number_of r
 
   answered : (x y p q f g : Bool) → code_of (framed c w x y p q f g).outcome ≡ first_number (rows c w x y p q f g)
   unfolding refused_of passed_of
@@ -163,7 +164,7 @@ module _ (c : Chain) (w : Worked) where
   answered true true true true true true = refl
   answered true true true true true false = refl
 
-  refused : (x y p q f g : Bool) → Tested x y p q f → (framed c w x y p q f g).outcome ≡ outcome.Refused Runaway
+  refused : (x y p q f g : Bool) → Tested x y p q f → (framed c w x y p q f g).outcome ≡ Err Runaway
   unfolding refused_of
   refused x y p q f g t = rw (t.key_length, t.bed_length, t.key_samples, t.bed_samples, t.runs_away)
 
@@ -179,7 +180,7 @@ module _ (c : Chain) (key bed : List Float) where
         numbered c w (eqb (length key) frame_length) (eqb (length bed) (bed_length c)) (all_finite key) (all_finite bed) (finite_in w) (full_in w),
       )
 
-  outcome_tests : ((frame_of c key bed).outcome ≡ outcome.Refused Runaway) ↔ Tests
+  outcome_tests : ((frame_of c key bed).outcome ≡ Err Runaway) ↔ Tests
   unfolding frame_of judged_of
   outcome_tests =
       let w = work_of c key bed in

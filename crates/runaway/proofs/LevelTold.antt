@@ -16,6 +16,7 @@ use Rattle.float.specs.AllFinite.{all_finite}
 use Rattle.level.specs.declared.Level.{Level}
 use Rattle.level.specs.Weighing.{run_of}
 use Rattle.level.specs.Deque.{joint}
+use Rattle.sequence.specs.Latest.{push_of}
 use Rattle.level.specs.Level as level
 use Rattle.level.specs.Valid.{Valid}
 use Rattle.level.specs.declared.Weighing.{Weighing}
@@ -83,7 +84,7 @@ module _ (l : Level) (xs : List Float) where
   abbrev numbers : List Float
   numbers =
       let j = joint w (length xs) in
-      let m = level.means_of (level.push_of l.powers j.power) in
+      let m = level.means_of (push_of l.powers j.power) in
       level.numbers_of j m (level.reading_of j m)
 
   handed-on : T (level.frame_of l xs).finite → Alls (of_loudness after (key_fast after))
@@ -94,7 +95,7 @@ module _ (l : Level) (xs : List Float) where
   level-told v t = record { stored = of-level after (frame-valid l xs v t); others = none; logarithm = handed-on t }
 
   pub level-tells : length l.powers.list ≡ 300 → Lists after [] (key_fast after) → T (level.frame_of l xs).finite
-  unfolding level.frame_of level.finish_of level.read_of level.means_of level.joined_of level.lufs_of level.push_of mean
+  unfolding level.frame_of level.finish_of level.read_of level.means_of level.joined_of level.lufs_of push_of mean
   level-tells n a =
       let stored = parts (level.stored_of w) a.stored in
       and_i (all_finite (level.stored_of w)) (all_finite numbers) (all-finite stored.0)

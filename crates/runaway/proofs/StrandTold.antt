@@ -1,4 +1,5 @@
 -- A strand's flag against the lists: level, detector, decision and answer put together, of the key and of the bed.
+use Rattle.std.specs.Prelude.{Option, Some, None, unwrap_or, option_to_list}
 use mathlib.Core.Path.{◌≡◌}
 use mathlib.Core.Bool.{Bool, true, false, cond, ◌&&◌}
 use mathlib.Core.List.{List, [], ◌∷◌, ◌++◌}
@@ -22,21 +23,17 @@ use Rattle.detector.specs.declared.Frame.{Frame}
 use Rattle.detector.specs.declared.Heard.{Heard}
 use Rattle.detector.proofs.Valid as detectors
 use Rattle.vad.specs.declared.VadSettings.{VadSettings}
-use Rattle.vad.specs.declared.SpeechPower.{SpeechPower}
-use Rattle.vad.specs.declared.SpeechPower.TheVariants as power
-use Rattle.vad.specs.declared.SpeechLevel.{SpeechLevel}
-use Rattle.vad.specs.declared.SpeechLevel.TheVariants as speech
 use Rattle.vad.specs.declared.Decision.{Decision}
 use Rattle.vad.specs.declared.VadState.{VadState}
 use Rattle.vad.specs.declared.Strand.{Strand}
 use Rattle.vad.specs.declared.Framed.{Framed}
 use Rattle.vad.specs.Decision.{exponent}
-use Rattle.vad.specs.State.{state_of, power_number, level_number, numbers_of}
+use Rattle.vad.specs.State.{state_of, numbers_of}
 use Rattle.vad.specs.Strand.{gated_of, next_of, finish_of, frame_of}
 use Rattle.vad.specs.Valid.{Valid}
 use Rattle.chain.specs.Chain.{first_channel, bed_strand_of}
-use Rattle.chain.specs.Numbers.{of_level, of_detector, of_power, of_decision, of_strand, of_channels}
-use Rattle.runaway.specs.Runaway.{of_speech_level, of_state, of_loudness, key_fast, bed_fast, of_bands, of_speech, to_logarithm, to_ten, to_root, to_narrowing}
+use Rattle.chain.specs.Numbers.{of_level, of_detector, of_decision, of_strand, of_channels}
+use Rattle.runaway.specs.Runaway.{of_state, of_loudness, key_fast, bed_fast, of_bands, of_speech, to_logarithm, to_ten, to_root, to_narrowing}
 use Rattle.level.proofs.Finite.{Alls, none, ◌more◌, ◌and◌, all-finite, finite-all, parts}
 use Rattle.rules.proofs.AllFinite.{zero-finite, of-detector}
 use Rattle.runaway.proofs.LevelTold.{handed-told, handed-tells}
@@ -46,29 +43,21 @@ use Rattle.runaway.proofs.DetectorTold.{detector-told, detector-tells}
 
 -- ---- what may be absent: nothing, which counts as 0 in the flags
 
-power-told : (p : SpeechPower) → T (finite (power_number p)) → Alls (of_power p) × Alls (of_speech p)
-unfolding power_number
-power-told power.Unset h = (none, none)
-power-told (power.At m) h = (h more none, above (lt zero64 m))
+power-told : (p : Option Float) → T (finite (unwrap_or p zero64)) → Alls (option_to_list p) × Alls (of_speech p)
+power-told None h = (none, none)
+power-told (Some m) h = (h more none, above (lt zero64 m))
   where
     above : (b : Bool) → Alls (cond b (m ∷ []) [])
     above true = h more none
     above false = none
 
-power-tells : (p : SpeechPower) → Alls (of_power p) → T (finite (power_number p))
-unfolding power_number
-power-tells power.Unset h = zero-finite
-power-tells (power.At m) (h more none) = h
+level-shown : (l : Option Float) → T (finite (unwrap_or l zero64)) → Alls (option_to_list l)
+level-shown None h = none
+level-shown (Some x) h = h more none
 
-level-shown : (l : SpeechLevel) → T (finite (level_number l)) → Alls (of_speech_level l)
-unfolding level_number
-level-shown speech.Unset h = none
-level-shown (speech.Dbfs x) h = h more none
-
-shown-level : (l : SpeechLevel) → Alls (of_speech_level l) → T (finite (level_number l))
-unfolding level_number
-shown-level speech.Unset h = zero-finite
-shown-level (speech.Dbfs x) (h more none) = h
+or-zero : (o : Option Float) → Alls (option_to_list o) → T (finite (unwrap_or o zero64))
+or-zero None h = zero-finite
+or-zero (Some x) (h more none) = h
 
 -- ---- the decision and the answer
 
@@ -102,7 +91,7 @@ module _ (d : Decision) (gated : Bool) (h : Frame) (r : Reading) where
     where
       go : Alls (of_decision d) → Alls (of_state shown) → Alls (numbers_of d shown)
       go (p more s) (q more a more b more c more f1 more f2 more f3 more f4 more l) =
-          p more power-tells d.power s more handed-tells d.active _ t.power more shown-level _ l more a more b more c more f1 more f2 more f3 more f4 more none
+          p more or-zero d.power s more handed-tells d.active _ t.power more or-zero _ l more a more b more c more f1 more f2 more f3 more f4 more none
 
 -- ---- what follows level and detector: of a strand t whose detector hears the 480 samples xs, and whose level after the frame is l
 

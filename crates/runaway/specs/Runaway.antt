@@ -2,7 +2,7 @@
 -- Here stand all these numbers, as the specification and the Rust have them: a list for each of the six, and the promise. No flag of the code is read.
 -- What a frame makes of a chain is `work_of`; t is a strand before the frame, xs are the 480 samples that its detector hears (all of the key's, the
 -- bed's first channel), and f is what the frame makes of it.
-use Rattle.std.specs.Prelude.{ℕ, zero, suc, ◌+◌, ◌-◌, ◌≡◌, ◌↔◌, false, cond, ◌&&◌, List, [], ◌∷◌, ◌++◌, ltb, length, get_or, take, drop, Float}
+use Rattle.std.specs.Prelude.{ℕ, zero, suc, ◌+◌, ◌-◌, ◌≡◌, ◌↔◌, false, cond, ◌&&◌, List, [], ◌∷◌, ◌++◌, ltb, length, get_or, take, drop, Float, Option, Some, None, option_to_list, Err}
 use Rattle.std.specs.Float.{nan}
 use Rattle.std.specs.Float.Ieee.{neg, lt}
 use Rattle.refusal.specs.declared.Refusal.TheVariants.{Runaway}
@@ -25,10 +25,6 @@ use Rattle.detector.specs.Filters.{begun, run_of, outputs_of, eighths}
 use Rattle.detector.specs.Modulation.{variance_of}
 use Rattle.detector.specs.Voicing.{energy_of, uneven_of}
 use Rattle.detector.specs.Detector.{frame64}
-use Rattle.vad.specs.declared.SpeechPower.{SpeechPower}
-use Rattle.vad.specs.declared.SpeechPower.TheVariants as power
-use Rattle.vad.specs.declared.SpeechLevel.{SpeechLevel}
-use Rattle.vad.specs.declared.SpeechLevel.TheVariants as speech
 use Rattle.vad.specs.declared.VadState.{VadState}
 use Rattle.vad.specs.declared.Strand.{Strand}
 use Rattle.vad.specs.declared.Framed.{Framed}
@@ -51,7 +47,6 @@ use Rattle.ratio.specs.Status.{config_of}
 use Rattle.ratio.specs.Frame.{frame_seconds}
 use Rattle.chain.specs.declared.Chain.{Chain}
 use Rattle.chain.specs.declared.Answer.{Answer}
-use Rattle.chain.specs.declared.Outcome.TheVariants as outcome
 use Rattle.chain.specs.declared.Worked.{Worked}
 use Rattle.chain.specs.Chain.{inputs_of, first_channel, work_of, kept_of, answer_of, channel_count, frame_of}
 use Rattle.chain.specs.StrandFrames.{Whole}
@@ -75,15 +70,11 @@ of_status s =
     (s.reduction_db.0 ∷ s.slow_db.0 ∷ s.mid_db.0 ∷ s.fast_db.0 ∷ s.target_lu ∷ [])
     ++ of_shown s.ratio_lu ++ of_shown s.dialogue_lufs ++ of_shown s.bed_lufs
 
-abbrev pub of_speech_level : SpeechLevel → List Float
-of_speech_level speech.Unset = []
-of_speech_level (speech.Dbfs x) = x ∷ []
-
 abbrev pub of_state : VadState → List Float
 of_state s =
     (s.speech_probability ∷ s.level_dbfs ∷ s.momentary_lufs.0 ∷ s.short_term_lufs.0
     ∷ s.features.over_floor_db ∷ s.features.modulation_db ∷ s.features.voicing ∷ s.features.anti ∷ [])
-    ++ of_speech_level s.speech_level
+    ++ option_to_list s.speech_level
 
 abbrev pub answered_in : Answer → List Float
 answered_in a = (a.reduction.0 ∷ []) ++ of_status a.status ++ of_state a.key ++ of_state a.bed
@@ -116,9 +107,9 @@ abbrev pub of_bands : Bands → List Float
 of_bands s = above_zero (s.full ⊘ frame64) ++ above_zero (s.band ⊘ frame64)
 
 -- the speech power, from which the speech level is worked out
-abbrev pub of_speech : SpeechPower → List Float
-of_speech power.Unset = []
-of_speech (power.At m) = above_zero m
+abbrev pub of_speech : Option Float → List Float
+of_speech None = []
+of_speech (Some m) = above_zero m
 
 abbrev pub to_logarithm : Strand → List Float → Framed → Float → List Float
 to_logarithm t xs f fast = of_loudness f.strand.level fast ++ of_bands (run_of (begun t.detector.filters) xs) ++ of_speech f.strand.decision.power
@@ -241,4 +232,4 @@ pub record RunawayExact : Type 0 where
   -- by the table
   pub number : (c : Chain) (key bed : List Float) → Valid c → (frame_number c key bed ≡ number_of Runaway) ↔ RunsAway c key bed
   -- by `Chain::frame`
-  pub outcome : (c : Chain) (key bed : List Float) → Valid c → ((frame_of c key bed).outcome ≡ outcome.Refused Runaway) ↔ RunsAway c key bed
+  pub outcome : (c : Chain) (key bed : List Float) → Valid c → ((frame_of c key bed).outcome ≡ Err Runaway) ↔ RunsAway c key bed

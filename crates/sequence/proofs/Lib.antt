@@ -2,7 +2,7 @@ pub mod Fold
 pub mod Fill
 pub mod Filled
 pub mod Shift
-pub mod Latest
+pub mod Deque
 pub mod Newest
 pub mod Series
 pub mod Places

@@ -1,4 +1,4 @@
--- Newest first: the laws that a loop cites which goes down the places of a count, and what the Rust's `iter().rev().take(n)` sees.
+-- Newest first: what the Rust's `iter().rev().take(n)` sees, and that the newest of a count's places are some, and then those further down.
 use Prim.Native.Nat.{ℕ, zero, suc, ◌+◌, ◌-◌, ◌≤◌, ◌<◌, min}
 use native.Mathlib.Numerals.{sub-one}
 use native.Mathlib.Nat.{zero-add, suc-add}
@@ -14,7 +14,7 @@ module _ {A : Type 0} where
   unfolding newest
   newest-length n xs = length-take n (reverse xs) ∙ ap (min n) (length-reverse xs)
 
-  -- ---- a loop that goes down from place c, with k values to take
+  -- ---- down from place c, with k values to take
 
   newest-more : (d : A) (places : List A) (c k : ℕ) → c < length places
       → newest (suc k) (held (suc c) places) ≡ get_or places c d ∷ newest k (held c places)

@@ -1,15 +1,12 @@
 -- A count and its places against the Rust's deque: a push, a block of pushes, on any count.
 use Prim.Native.Nat.{ℕ, suc, ◌+◌, ◌-◌, ◌≤◌, ◌<◌, min}
 use native.Mathlib.Omega.{arith}
-use mathlib.Core.Bool.{Bool, true, false}
-use mathlib.Core.Path.{◌≡◌, refl, ap, sym, ◌∙◌}
+use mathlib.Core.Path.{◌≡◌, ap, sym, ◌∙◌}
 use mathlib.Core.List.{List, [], ◌∷◌, ◌++◌, foldl, append_assoc, append-nil}
-use lib.Dec.{ltb}
 use lib.ListN.{length, take, drop, set, length-take, length-drop, length-append}
 use lib.Seq.{take_all, take_at, set_split, drop-length}
-use borrow.Author.Tests.{ltb-true, ltb-false}
 use Rattle.sequence.specs.History.{latest, pushed, held, laid, count_after, places_after, slid}
-use Rattle.sequence.proofs.Latest.{drop_as, latest-size, latest-length, latest-all, pushes_block}
+use Rattle.sequence.proofs.Deque.{drop_as, latest-size, latest-length, latest-all, pushes_block}
 
 pub count-within : (n count k : ℕ) → count_after n count k ≤ n
 unfolding count_after
@@ -18,18 +15,6 @@ count-within n count k = omega arith
 module _ {A : Type 0} where
   pub held-length : (count : ℕ) (places : List A) → length (held count places) ≡ min count (length places)
   held-length count places = length-take count places
-
-  -- a count above the number of places counts as that number
-  pub held-least : (count : ℕ) (places : List A) → held (min count (length places)) places ≡ held count places
-  held-least count places = go (ltb count (length places)) refl
-    where
-      go : (b : Bool) → ltb count (length places) ≡ b → held (min count (length places)) places ≡ held count places
-      go true e =
-          let m : min count (length places) ≡ count = omega (arith, ltb-true count (length places) e) in
-          rw m
-      go false e =
-          let l = ltb-false count (length places) e in
-          take_all (min count (length places)) places (omega (arith, l)) ∙ sym (take_all count places l)
 
   module _ (count : ℕ) (places xs : List A) where
     -- what the places hold after the values xs more

@@ -1,11 +1,13 @@
--- The laws that a loop cites which moves values down by k places, from the first upward. Over any element.
-use Prim.Native.Nat.{ℕ, suc, ◌+◌, ◌≤◌, ◌<◌}
+-- The laws of values that move down by k places, from the first upward: in a loop, and of a slide by one place by `copy_within`. Over any element.
+use Prim.Native.Nat.{ℕ, suc, ◌+◌, ◌-◌, ◌≤◌, ◌<◌}
 use native.Mathlib.Numerals.{add-one}
 use native.Mathlib.Omega.{arith}
 use mathlib.Core.Path.{◌≡◌, refl, ap, sym, ◌∙◌}
 use mathlib.Core.List.{List, [], ◌∷◌, ◌++◌}
 use lib.ListN.{length, take, drop, get_or, set, length-take, length-drop, length-append, drop_of_length-le}
 use lib.Seq.{drop-cons, take-suc, set_at, get_or-append-add, get_or-drop, append_snoc, take_all, drop-append-le}
+use Rattle.std.specs.List.{copy_within}
+use Rattle.std.proofs.lemmas.List.Edits.{paste_all}
 use Rattle.sequence.specs.History.{slid}
 
 module _ {A : Type 0} where
@@ -50,6 +52,16 @@ module _ {A : Type 0} where
       rw (e, f, shift-end 1 xs last (omega arith))
       (ap (λ (l : List A). set (drop 1 xs ++ l) last x) (drop-cons xs last d (omega arith))
       ∙ set_at (drop 1 xs) (get_or xs last d) (drop (suc last) xs) x last (simp length-drop (omega arith))
+      ∙ ap (λ (l : List A). drop 1 xs ++ x ∷ l) (drop_of_length-le xs {i = suc last} (omega arith))
+      ∙ sym (drop-append-le 1 xs (x ∷ []) (omega arith)))
+
+  -- `copy_within` has moved all down by one place, and x is stored in the last
+  pub slide-copied : (xs v : List A) (x : A) (last : ℕ) → v ≡ copy_within xs 1 (length xs) 0 → last + 1 ≡ length xs → set v last x ≡ slid xs x
+  slide-copied xs v x last e h =
+      rw (e, paste_all xs 0 (drop 1 xs) (length xs - 1) (sym (length-drop 1 xs)))
+      (ap (λ (j : ℕ). set (drop 1 xs ++ drop j xs) last x) (omega arith)
+      ∙ ap (λ (l : List A). set (drop 1 xs ++ l) last x) (drop-cons xs last x (omega arith))
+      ∙ set_at (drop 1 xs) (get_or xs last x) (drop (suc last) xs) x last (simp length-drop (omega arith))
       ∙ ap (λ (l : List A). drop 1 xs ++ x ∷ l) (drop_of_length-le xs {i = suc last} (omega arith))
       ∙ sym (drop-append-le 1 xs (x ∷ []) (omega arith)))
 

@@ -1,3 +1,4 @@
 pub mod History
 pub mod Counted
+pub mod Latest
 pub mod All

@@ -70,7 +70,7 @@ const SPEED: Range = Range {
     high: 100.0,
 };
 
-// What a settings call may bring.
+// What a settings call may bring. This table and the next are kept apart on purpose: what a call may bring and what an image may hold may come to differ.
 const CALL_RANGES: Ranges = Ranges {
     threshold: THRESHOLD,
     hold_ms: HOLD_MS,
@@ -100,51 +100,54 @@ pub struct Settings {
 
 impl Range {
     // Whether x lies outside, or isn't finite.
+    #[tactic(auto, unfolding(crate::specs::Settings::outside_of))]
     pub fn outside(self, x: f64) -> bool
         ensures { result ≡ outside_of self x }
     {
-        if float::finite(x) {
-            return (x < self.low) | (self.high < x);
-        }
-        true
+        !float::finite(x) || x < self.low || self.high < x
     }
 }
 
 impl Ranges {
     // Whether a strand's setting is outside its range, or isn't finite.
+    #[tactic(auto, unfolding(crate::specs::Settings::outside_strand))]
     fn outside_strand(self, s: VadSettings) -> bool
         ensures { result ≡ outside_strand self s }
     {
         self.threshold.outside(s.threshold)
-            | self.hold_ms.outside(s.hold_ms)
-            | self.gate_lufs.outside(s.gate_lufs.0)
+            || self.hold_ms.outside(s.hold_ms)
+            || self.gate_lufs.outside(s.gate_lufs.0)
     }
 
     // The same for the ducker's.
+    #[tactic(auto, unfolding(crate::specs::Settings::outside_duck))]
     fn outside_duck(self, d: Duck) -> bool
         ensures { result ≡ outside_duck self d }
     {
         self.ratio_lu.outside(d.target_lu)
-            | self.ratio_lu.outside(d.overvoice_lu)
-            | self.max_reduction_db.outside(d.max_reduction_db.0)
-            | self.speed.outside(d.speed)
+            || self.ratio_lu.outside(d.overvoice_lu)
+            || self.max_reduction_db.outside(d.max_reduction_db.0)
+            || self.speed.outside(d.speed)
     }
 
     // Whether a setting is outside its range, or isn't finite.
+    #[tactic(auto, unfolding(crate::specs::Settings::outside_settings))]
     pub fn outside_settings(self, s: Settings) -> bool
         ensures { result ≡ outside_settings self s }
     {
-        self.outside_strand(s.key) | self.outside_strand(s.bed) | self.outside_duck(s.duck)
+        self.outside_strand(s.key) || self.outside_strand(s.bed) || self.outside_duck(s.duck)
     }
 }
 
 // x, and zero for negative zero.
+#[tactic(auto, unfolding(crate::specs::Settings::zeroed_of))]
 fn zeroed(x: f64) -> f64
     ensures { result ≡ zeroed_of x }
 {
     float::pick(x == 0.0, 0.0, x)
 }
 
+#[tactic(auto, unfolding(crate::specs::Settings::stored_strand))]
 fn stored_strand(s: VadSettings) -> VadSettings
     ensures { result ≡ stored_strand s }
 {
@@ -155,6 +158,7 @@ fn stored_strand(s: VadSettings) -> VadSettings
     }
 }
 
+#[tactic(auto, unfolding(crate::specs::Settings::stored_duck))]
 fn stored_duck(d: Duck) -> Duck
     ensures { result ≡ stored_duck d }
 {
@@ -169,6 +173,7 @@ fn stored_duck(d: Duck) -> Duck
 }
 
 // Settings as they are stored: zero in place of negative zero.
+#[tactic(auto, unfolding(crate::specs::Settings::stored_of))]
 pub fn stored(s: Settings) -> Settings
     ensures { result ≡ stored_of s }
 {

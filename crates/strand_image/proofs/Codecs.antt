@@ -1,22 +1,17 @@
 -- The laws of the codecs of a strand: each follows from those of its parts.
 use mathlib.Core.Path.{◌≡◌, refl}
 use mathlib.Core.Bool.{false}
-use mathlib.Core.Option.{Option, none, some}
-use Prim.Native.Nat.{◌^◌}
+use Prim.Native.Nat.{ℕ, ◌^◌, ◌<◌}
 use lib.ListN.{replicate}
 use lib.Dec.{T, lit<, lit≤}
-use lib.Ieee.{Float, binary64, to_bits, of_bits}
+use lib.Ieee.{binary64, to_bits, of_bits}
 use Rattle.blocks.proofs.Lists.{below-replicate}
 use Rattle.codec.specs.Fields.{zero_of}
 use Rattle.codec.specs.Codec.{CellLaws, CodecLaws}
 use Rattle.codec.specs.Forms.{f64, below, flag, one, fixed, pair}
 use Rattle.codec.proofs.Kept.{zero-num}
 use Rattle.codec.proofs.Forms.{f64-laws, f32-laws, below_laws, flag-laws, one_laws, fixed_laws, pair-laws, as_a-laws, also-laws, counted-laws, maybe-laws}
-use Rattle.detector.specs.declared.floor.Smoothed as smoothedPower
-use Rattle.detector.specs.declared.floor.Smoothed.TheVariants as smoothedPowerCases
-use Rattle.vad.specs.declared.SpeechPower as speech_power
-use Rattle.vad.specs.declared.SpeechPower.TheVariants as speechPowerCases
-use Rattle.strand_image.specs.Strand.{state, filters, powers, decimated, minima, history, from_smoothed, to_smoothed, smoothed, from_power, to_power, power, window_rule, window, floor, counts_rule, from_counts, to_counts, counts, decision, front, strand}
+use Rattle.strand_image.specs.Strand.{state, filters, powers, decimated, latest, minima, history, window_rule, window, floor, counts_rule, from_counts, to_counts, counts, decision, front, strand}
 
 -- ---- filters
 
@@ -33,47 +28,22 @@ filters-laws = as_a-laws _ _ (λ a. refl) (λ b. refl) (pair-laws state-laws (pa
 
 -- ---- lists
 
+pub latest-laws : (n : ℕ) → n < 2 ^ 64 → CodecLaws (latest n)
+unfolding latest
+latest-laws n h = as_a-laws _ _ (λ a. refl) (λ b. refl) (counted-laws f64-laws n h)
+
 pub powers-laws : CodecLaws powers
-unfolding powers
-powers-laws = as_a-laws _ _ (λ a. refl) (λ b. refl) (counted-laws f64-laws 300 (lit< tt))
+powers-laws = latest-laws 300 (lit< tt)
+
+pub minima-laws : CodecLaws minima
+minima-laws = latest-laws 8 (lit< tt)
+
+pub history-laws : CodecLaws history
+history-laws = latest-laws 40 (lit< tt)
 
 pub decimated-laws : CodecLaws decimated
 unfolding decimated
 decimated-laws = as_a-laws _ _ (λ a. refl) (λ b. refl) (counted-laws f32-laws 240 (lit< tt))
-
-pub minima-laws : CodecLaws minima
-unfolding minima
-minima-laws = as_a-laws _ _ (λ a. refl) (λ b. refl) (counted-laws f64-laws 8 (lit< tt))
-
-pub history-laws : CodecLaws history
-unfolding history
-history-laws = as_a-laws _ _ (λ a. refl) (λ b. refl) (counted-laws f64-laws 40 (lit< tt))
-
--- ---- a value or none
-
-pub from-to-smoothed : (a : Option Float) → from_smoothed (to_smoothed a) ≡ a
-from-to-smoothed none = refl
-from-to-smoothed (some x) = refl
-
-to-from-smoothed : (a : smoothedPower.Smoothed) → to_smoothed (from_smoothed a) ≡ a
-to-from-smoothed smoothedPowerCases.Unset = refl
-to-from-smoothed (smoothedPowerCases.At x) = refl
-
-pub smoothed-laws : CodecLaws smoothed
-unfolding smoothed
-smoothed-laws = as_a-laws from_smoothed to_smoothed from-to-smoothed to-from-smoothed (maybe-laws f64-laws)
-
-pub from-to-power : (a : Option Float) → from_power (to_power a) ≡ a
-from-to-power none = refl
-from-to-power (some x) = refl
-
-to-from-power : (a : speech_power.SpeechPower) → to_power (from_power a) ≡ a
-to-from-power speechPowerCases.Unset = refl
-to-from-power (speechPowerCases.At x) = refl
-
-pub power_laws : CodecLaws power
-unfolding power
-power_laws = as_a-laws from_power to_power from-to-power to-from-power (maybe-laws f64-laws)
 
 -- ---- the noise floor
 
@@ -95,7 +65,7 @@ window-laws = as_a-laws _ _ (λ a. refl) (λ b. refl)
 
 pub floor-laws : CodecLaws floor
 unfolding floor
-floor-laws = as_a-laws _ _ (λ a. refl) (λ b. refl) (pair-laws smoothed-laws (pair-laws window-laws minima-laws))
+floor-laws = as_a-laws _ _ (λ a. refl) (λ b. refl) (pair-laws (maybe-laws f64-laws) (pair-laws window-laws minima-laws))
 
 -- ---- the decision
 
@@ -112,7 +82,7 @@ counts-laws = as_a-laws from_counts to_counts (λ a. refl) (λ b. refl) (also-la
 
 pub decision-laws : CodecLaws decision
 unfolding decision
-decision-laws = as_a-laws _ _ (λ a. refl) (λ b. refl) (pair-laws counts-laws (pair-laws (one_laws (below_laws 6001 (lit< tt) (lit≤ tt))) power_laws))
+decision-laws = as_a-laws _ _ (λ a. refl) (λ b. refl) (pair-laws counts-laws (pair-laws (one_laws (below_laws 6001 (lit< tt) (lit≤ tt))) (maybe-laws f64-laws)))
 
 -- ---- the strand
 

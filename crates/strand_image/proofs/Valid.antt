@@ -1,4 +1,7 @@
 -- What the strand's codec holds good is what the modules call valid.
+use Rattle.codec.specs.Forms.{f64}
+use Rattle.codec.specs.Codec.{MaybeOk}
+use Rattle.std.specs.Prelude.{Option, Some, None, IfSome}
 use mathlib.Core.Path.{◌≡◌, refl, sym, ap, ◌∙◌}
 use mathlib.Core.Bool.{Bool, true, false, not, ◌||◌}
 use Prim.Native.Nat.{ℕ, ◌+◌}
@@ -15,16 +18,12 @@ use Rattle.level.specs.declared.Level.{Level}
 use Rattle.level.specs.Valid.{Settled}
 use Rattle.level.specs.Valid as level
 use Rattle.detector.specs.declared.filters.Filters.{Filters}
-use Rattle.detector.specs.declared.floor.Smoothed as smoothedPower
-use Rattle.detector.specs.declared.floor.Smoothed.TheVariants as smoothedPowerCases
 use Rattle.detector.specs.declared.floor.Floor.{Floor}
-use Rattle.detector.specs.Valid.{FiltersValid, SmoothedValid, FloorValid}
-use Rattle.vad.specs.declared.SpeechPower as speech_power
-use Rattle.vad.specs.declared.SpeechPower.TheVariants as speechPowerCases
+use Rattle.detector.specs.Valid.{FiltersValid, FloorValid}
 use Rattle.vad.specs.declared.Decision.{Decision}
 use Rattle.vad.specs.declared.Strand.{Strand}
-use Rattle.vad.specs.Valid.{PowerValid, DecisionValid, Valid}
-use Rattle.strand_image.specs.Strand.{state, filters, powers, decimated, minima, history, smoothed, power, window_rule, window, floor, counts, decision, front, strand}
+use Rattle.vad.specs.Valid.{DecisionValid, Valid}
+use Rattle.strand_image.specs.Strand.{state, filters, powers, decimated, latest, window_rule, window, floor, counts, decision, front, strand}
 use Rattle.strand_image.proofs.Codecs.{zero_bits}
 
 -- ---- filters
@@ -56,7 +55,7 @@ valid-filters f v = (
 -- ---- level
 
 front-valid : (l : Level) (f : Filters) → front.Ok (l, f) → level.Valid l × FiltersValid f
-unfolding front powers
+unfolding front latest
 front-valid l f ok = (
   record {
     shelf = state-valid l.shelf ok.0;
@@ -68,20 +67,18 @@ front-valid l f ok = (
 )
 
 valid-front : (l : Level) (f : Filters) → level.Valid l → FiltersValid f → front.Ok (l, f)
-unfolding front powers
+unfolding front latest
 valid-front l f v u = (valid-state l.shelf v.shelf, (valid-state l.high_pass v.high_pass, (valid-filters f u, (v.fast, v.powers))))
 
 -- ---- the noise floor
 
-smoothed-valid : (s : smoothedPower.Smoothed) → smoothed.Ok s → SmoothedValid s
-unfolding smoothed
-smoothed-valid smoothedPowerCases.Unset ok = tt
-smoothed-valid (smoothedPowerCases.At x) ok = ok
+optional-valid : (o : Option Float) → MaybeOk f64 o → IfSome o (Num binary64)
+optional-valid None ok = tt
+optional-valid (Some x) ok = ok
 
-valid-smoothed : (s : smoothedPower.Smoothed) → SmoothedValid s → smoothed.Ok s
-unfolding smoothed
-valid-smoothed smoothedPowerCases.Unset v = tt
-valid-smoothed (smoothedPowerCases.At x) v = v
+valid-optional : (o : Option Float) → IfSome o (Num binary64) → MaybeOk f64 o
+valid-optional None v = tt
+valid-optional (Some x) v = v
 
 -- the rule of an empty window, as a test and as a fact
 rule_empty : (x : Float) (n : ℕ) → Num binary64 x → T (window_rule (x, n)) → n ≡ 0 → x ≡ zero_of binary64
@@ -97,11 +94,11 @@ empty_rule x n h = go (eqb n 0) refl
     go false e = tt
 
 floor-valid : (f : Floor) → floor.Ok f → FloorValid f
-unfolding floor window minima
+unfolding floor window latest
 floor-valid f ok =
     let w = ok.1.0 in
     record {
-      smoothed = smoothed-valid f.smoothed ok.0;
+      smoothed = optional-valid f.smoothed ok.0;
       window_min = w.0.0;
       empty = rule_empty f.window_min f.window_frames w.0.0 w.1;
       window_frames = omega (arith, w.0.1);
@@ -109,23 +106,13 @@ floor-valid f ok =
     }
 
 valid-floor : (f : Floor) → FloorValid f → floor.Ok f
-unfolding floor window minima
+unfolding floor window latest
 valid-floor f v = (
-  valid-smoothed f.smoothed v.smoothed,
+  valid-optional f.smoothed v.smoothed,
   (((v.window_min, omega (arith, v.window_frames)), empty_rule f.window_min f.window_frames v.empty), v.minima),
 )
 
 -- ---- the decision
-
-power-valid : (s : speech_power.SpeechPower) → power.Ok s → PowerValid s
-unfolding power
-power-valid speechPowerCases.Unset ok = tt
-power-valid (speechPowerCases.At x) ok = ok
-
-valid-power : (s : speech_power.SpeechPower) → PowerValid s → power.Ok s
-unfolding power
-valid-power speechPowerCases.Unset v = tt
-valid-power (speechPowerCases.At x) v = v
 
 decision-valid : (d : Decision) → decision.Ok d → DecisionValid d
 unfolding decision counts
@@ -136,7 +123,7 @@ decision-valid d ok =
       counts = eqb-true d.onsets (d.offsets + flag_bits d.active) (is_true _ n.1);
       onsets = omega (arith, n.0.1.1.0);
       hold = omega (arith, ok.1.0);
-      power = power-valid d.power ok.1.1;
+      power = optional-valid d.power ok.1.1;
     }
 
 valid-decision : (d : Decision) → DecisionValid d → decision.Ok d
@@ -146,13 +133,13 @@ valid-decision d v = (
     (tt, (v.probability, (omega (arith, v.onsets), omega (arith, v.onsets, v.counts)))),
     true-T (eq-eqb d.onsets (d.offsets + flag_bits d.active) v.counts),
   ),
-  (omega (arith, v.hold), valid-power d.power v.power),
+  (omega (arith, v.hold), valid-optional d.power v.power),
 )
 
 -- ---- the strand
 
 pub strand-valid : (s : Strand) → strand.Ok s → Valid s
-unfolding strand decimated history
+unfolding strand decimated latest
 strand-valid s ok =
     let f = front-valid s.level s.detector.filters ok.0 in
     record {
@@ -162,7 +149,7 @@ strand-valid s ok =
     }
 
 pub valid-strand : (s : Strand) → Valid s → strand.Ok s
-unfolding strand decimated history
+unfolding strand decimated latest
 valid-strand s v = (
   valid-front s.level s.detector.filters v.level v.detector.filters,
   (v.detector.decimated, (valid-floor s.detector.floor v.detector.floor, (v.detector.history, valid-decision s.decision v.decision))),

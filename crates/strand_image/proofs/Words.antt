@@ -14,11 +14,11 @@ use Rattle.codec.specs.Fields.{zero_of, num_of, capped, flag_bits}
 use Rattle.codec.specs.Codec.{Codec}
 use Rattle.codec.proofs.Kept.{here-head, here-rest, zero-num, true-T, capped_same}
 use Rattle.codec.specs.Forms.{f64, f32, below, flag, one, fixed, pair, counted, maybe}
-use Rattle.strand_image.specs.Strand.{state, filters, powers, decimated, minima, history, from_smoothed, to_smoothed, smoothed, from_power, to_power, power, window_rule, window, floor, counts_rule, counts, decision, front, strand}
+use Rattle.strand_image.specs.Strand.{state, filters, powers, decimated, latest, minima, history, window_rule, window, floor, counts_rule, counts, decision, front, strand}
 use Rattle.strand_image.specs.Words.{Finite64, Finite32, Flag, FilterWords, ListWords, OptionalWords, StrandWords}
-use Rattle.codec.proofs.Forms.{f64-laws, below_laws, flag-laws, one_laws, pair-laws}
-use Rattle.strand_image.proofs.Codecs.{state-laws, filters-laws, decimated-laws, history-laws, from-to-smoothed, smoothed-laws, from-to-power, zero_bits, window-blank, frames-laws, window-laws, floor-laws, tally_laws, parts_laws, counts-laws, front-laws}
-use Rattle.codec.proofs.Again.{Iff, Reads, here_cons, here-none, reads-one, reads-pair, reads-as_a, reads-also, reads-counted, reads-maybe, kept-float, kept-below, kept-flag}
+use Rattle.codec.proofs.Forms.{f64-laws, below_laws, flag-laws, one_laws, pair-laws, maybe-laws}
+use Rattle.strand_image.proofs.Codecs.{state-laws, filters-laws, decimated-laws, history-laws, zero_bits, window-blank, frames-laws, window-laws, floor-laws, tally_laws, parts_laws, counts-laws, front-laws}
+use Rattle.codec.proofs.Again.{Iff, Reads, here_cons, here-none, reads-one, reads-pair, reads-also, reads-counted, reads-maybe, kept-float, kept-below, kept-flag}
 
 module _ (l : List ℕ) (s : Words l) where
   abbrev word : ℕ → ℕ
@@ -144,20 +144,6 @@ module _ (l : List ℕ) (s : Words l) where
         λ w. a.1 (record { flag = w.flag; value = λ e. (kept-float binary64 (word (i + 1))).1 (omega (arith, s (i + 1)), w.value e); none = w.none }),
       )
 
-  smoothed-words : (i : ℕ) → Iff (Reads smoothed l i) (OptionalWords l i)
-  unfolding smoothed
-  smoothed-words i =
-      let a = reads-as_a from_smoothed to_smoothed from-to-smoothed (maybe f64) l i in
-      let b = optional_words i in
-      ((λ h. b.0 (a.0 h)), λ w. a.1 (b.1 w))
-
-  power-words : (i : ℕ) → Iff (Reads power l i) (OptionalWords l i)
-  unfolding power
-  power-words i =
-      let a = reads-as_a from_power to_power from-to-power (maybe f64) l i in
-      let b = optional_words i in
-      ((λ h. b.0 (a.0 h)), λ w. a.1 (b.1 w))
-
   -- ---- the window of the noise floor
 
   abbrev WindowWords : ℕ → Type 0
@@ -244,11 +230,11 @@ module _ (l : List ℕ) (s : Words l) where
   -- ---- the parts of a strand
 
   floor-words : (i : ℕ) → Iff (Reads floor l i) (OptionalWords l i × WindowWords (i + 2) × ListWords Finite64 8 l (i + 4))
-  unfolding floor smoothed window minima
+  unfolding floor window latest
   floor-words i =
-      let a = reads-pair smoothed-laws (pair window minima) l i 2 (i + 2) refl refl in
+      let a = reads-pair (maybe-laws f64-laws) (pair window minima) l i 2 (i + 2) refl refl in
       let b = reads-pair window-laws minima l (i + 2) 2 (i + 4) refl (omega arith) in
-      let x : Iff (Reads smoothed l i) (OptionalWords l i) = unfold smoothed in smoothed-words i in
+      let x : Iff (Reads (maybe f64) l i) (OptionalWords l i) = optional_words i in
       let y : Iff (Reads window l (i + 2)) (WindowWords (i + 2)) = unfold window in window-words (i + 2) in
       let z : Iff (Reads minima l (i + 4)) (ListWords Finite64 8 l (i + 4)) = list-words 8 (i + 4) in (
         (λ h. let p = a.0 h in let q = b.0 p.1 in (x.0 p.0, y.0 q.0, z.0 q.1)),
@@ -256,14 +242,14 @@ module _ (l : List ℕ) (s : Words l) where
       )
 
   decision-words : (i : ℕ) → Iff (Reads decision l i) (CountWords i × (word (i + 4) ≤ 6000) × OptionalWords l (i + 5))
-  unfolding decision counts power
+  unfolding decision counts
   decision-words i =
       let hold = below 6001 in
-      let a = reads-pair counts-laws (pair (one hold) power) l i 4 (i + 4) refl refl in
-      let b = reads-pair (one_laws (below_laws 6001 (lit< tt) (lit≤ tt))) power l (i + 4) 1 (i + 5) refl (omega arith) in
+      let a = reads-pair counts-laws (pair (one hold) (maybe f64)) l i 4 (i + 4) refl refl in
+      let b = reads-pair (one_laws (below_laws 6001 (lit< tt) (lit≤ tt))) (maybe f64) l (i + 4) 1 (i + 5) refl (omega arith) in
       let x : Iff (Reads counts l i) (CountWords i) = unfold counts in counts-words i in
       let y = limited 6001 (lit< tt) (i + 4) in
-      let z : Iff (Reads power l (i + 5)) (OptionalWords l (i + 5)) = unfold power in power-words (i + 5) in (
+      let z : Iff (Reads (maybe f64) l (i + 5)) (OptionalWords l (i + 5)) = optional_words (i + 5) in (
         (λ h. let p = a.0 h in let q = b.0 p.1 in (x.0 p.0, omega (arith, y.0 q.0), z.0 q.1)),
         λ w. a.1 (x.1 w.0, b.1 (y.1 (omega (arith, w.1)), z.1 w.2)),
       )
@@ -274,7 +260,7 @@ module _ (l : List ℕ) (s : Words l) where
       × Finite64 (word (i + 24)) × ListWords Finite64 300 l (i + 25)
 
   front-words : (i : ℕ) → Iff (Reads front l i) (FrontWords i)
-  unfolding front state filters powers
+  unfolding front state filters latest
   front-words i =
       let a = reads-pair state-laws (pair state (pair filters (pair (one f64) powers))) l i 4 (i + 4) refl refl in
       let b = reads-pair state-laws (pair filters (pair (one f64) powers)) l (i + 4) 4 (i + 8) refl (omega arith) in
@@ -296,7 +282,7 @@ module _ (l : List ℕ) (s : Words l) where
   -- ---- the strand
 
   size-front : front.size ≡ 326
-  unfolding front state filters powers
+  unfolding front state filters latest
   size-front = refl
 
   size-decimated : decimated.size ≡ 241
@@ -304,11 +290,11 @@ module _ (l : List ℕ) (s : Words l) where
   size-decimated = refl
 
   size-floor : floor.size ≡ 13
-  unfolding floor smoothed window minima
+  unfolding floor window latest
   size-floor = refl
 
   size-history : history.size ≡ 41
-  unfolding history
+  unfolding latest
   size-history = refl
 
   abbrev Parts : ℕ → Type 0
@@ -330,7 +316,7 @@ module _ (l : List ℕ) (s : Words l) where
   decimated-words i = list_words32 240 i
 
   history-words : (i : ℕ) → Iff (Reads history l i) (ListWords Finite64 40 l i)
-  unfolding history
+  unfolding latest
   history-words i = list-words 40 i
 
   module _ (i : ℕ) where

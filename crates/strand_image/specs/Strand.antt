@@ -1,23 +1,16 @@
 -- The 628 words of a strand, as codecs: each is how a part is written and read, and which values it holds. Definitions only.
+use Rattle.sequence.specs.declared.Latest.{Latest}
 use Rattle.std.specs.Prelude.{Bool, false, not, ◌||◌, ℕ, ◌+◌, replicate, eqb, Float}
-use Rattle.std.proofs.Math.Option.{Option, none, some}
 use Rattle.std.specs.Float.{binary64}
 use Rattle.std.specs.Float.Ieee.{to_bits}
 use Rattle.codec.specs.Fields.{zero_of, flag_bits}
 use Rattle.codec.specs.Codec.{Codec}
 use Rattle.codec.specs.Forms.{f64, f32, below, flag, one, fixed, pair, as_a, also, counted, maybe}
 use Rattle.biquad.specs.declared.State.{State}
-use Rattle.level.specs.declared.Powers.{Powers}
 use Rattle.level.specs.declared.Level.{Level}
 use Rattle.detector.specs.declared.filters.Filters.{Filters}
 use Rattle.detector.specs.declared.filters.Decimated.{Decimated}
-use Rattle.detector.specs.declared.floor.Smoothed as smoothedPower
-use Rattle.detector.specs.declared.floor.Smoothed.TheVariants as smoothedPowerCases
-use Rattle.detector.specs.declared.floor.Minima.{Minima}
 use Rattle.detector.specs.declared.floor.Floor.{Floor}
-use Rattle.detector.specs.declared.modulation.History.{History}
-use Rattle.vad.specs.declared.SpeechPower as speech_power
-use Rattle.vad.specs.declared.SpeechPower.TheVariants as speechPowerCases
 use Rattle.vad.specs.declared.Decision.{Decision}
 use Rattle.vad.specs.declared.Strand.{Strand}
 use Rattle.strand_image.specs.declared.Window.{Window}
@@ -38,41 +31,20 @@ filters = as_a (λ f. (f.high_pass, (f.low_pass, (f.pitch1, f.pitch2))))
 
 -- ---- lists: a count, and the values, oldest first
 
-unfoldable pub powers : Codec Powers
-powers = as_a (λ s. (s.count, s.list)) (λ p. record { count = p.0; list = p.1 }) (counted f64 300)
+unfoldable pub latest : (n : ℕ) → Codec (Latest n)
+latest n = as_a (λ s. (s.count, s.list)) (λ p. record { count = p.0; list = p.1 }) (counted f64 n)
+
+abbrev pub powers : Codec (Latest 300)
+powers = latest 300
+
+abbrev pub minima : Codec (Latest 8)
+minima = latest 8
+
+abbrev pub history : Codec (Latest 40)
+history = latest 40
 
 unfoldable pub decimated : Codec Decimated
 decimated = as_a (λ s. (s.count, s.list)) (λ p. record { count = p.0; list = p.1 }) (counted f32 240)
-
-unfoldable pub minima : Codec Minima
-minima = as_a (λ s. (s.count, s.list)) (λ p. record { count = p.0; list = p.1 }) (counted f64 8)
-
-unfoldable pub history : Codec History
-history = as_a (λ s. (s.count, s.list)) (λ p. record { count = p.0; list = p.1 }) (counted f64 40)
-
--- ---- a value or none: a flag, and the value
-
-abbrev pub from_smoothed : smoothedPower.Smoothed → Option Float
-from_smoothed smoothedPowerCases.Unset = none
-from_smoothed (smoothedPowerCases.At x) = some x
-
-abbrev pub to_smoothed : Option Float → smoothedPower.Smoothed
-to_smoothed none = smoothedPowerCases.Unset
-to_smoothed (some x) = smoothedPowerCases.At x
-
-unfoldable pub smoothed : Codec smoothedPower.Smoothed
-smoothed = as_a from_smoothed to_smoothed (maybe f64)
-
-abbrev pub from_power : speech_power.SpeechPower → Option Float
-from_power speechPowerCases.Unset = none
-from_power (speechPowerCases.At x) = some x
-
-abbrev pub to_power : Option Float → speech_power.SpeechPower
-to_power none = speechPowerCases.Unset
-to_power (some x) = speechPowerCases.At x
-
-unfoldable pub power : Codec speech_power.SpeechPower
-power = as_a from_power to_power (maybe f64)
 
 -- ---- the noise floor
 
@@ -88,7 +60,7 @@ window = as_a (λ s. (s.least, s.frames)) (λ p. record { least = p.0; frames = 
 unfoldable pub floor : Codec Floor
 floor = as_a (λ f. (f.smoothed, (record { least = f.window_min; frames = f.window_frames }, f.minima)))
     (λ p. record { smoothed = p.0; window_min = p.1.0.least; window_frames = p.1.0.frames; minima = p.1.1 })
-    (pair smoothed (pair window minima))
+    (pair (maybe f64) (pair window minima))
 
 -- ---- the decision
 
@@ -112,7 +84,7 @@ counts = as_a from_counts to_counts
 unfoldable pub decision : Codec Decision
 decision = as_a (λ d. (record { active = d.active; probability = d.probability; onsets = d.onsets; offsets = d.offsets }, (d.hold, d.power)))
     (λ p. record { active = p.0.active; probability = p.0.probability; onsets = p.0.onsets; offsets = p.0.offsets; hold = p.1.0; power = p.1.1 })
-    (pair counts (pair (one (below 6001)) power))
+    (pair counts (pair (one (below 6001)) (maybe f64)))
 
 -- ---- the strand
 

@@ -2,17 +2,13 @@
 // words differ from those read.
 #![tactic(auto)]
 
-ghost use Rattle.std.specs.Prelude.{◌≡◌, ◌+◌, ◌^◌, ◌≤◌};
+ghost use Rattle.std.specs.Prelude.{◌≡◌, suc, ◌+◌, ◌^◌, ◌≤◌};
 ghost use Rattle.codec.specs.Run.{Run};
 ghost use Rattle.strand_image.specs.Strand.{
   state,
   filters,
-  powers,
   decimated,
-  minima,
-  history,
-  smoothed,
-  power,
+  latest,
   window,
   floor,
   counts,
@@ -22,9 +18,10 @@ ghost use Rattle.strand_image.specs.Strand.{
 };
 
 use biquad::State;
-use detector::{Decimated, FeatureDetector, Filters, Floor, History, Minima, Smoothed};
-use level::{Level, Powers};
-use vad::{Decision, SpeechPower, Strand};
+use detector::{Decimated, FeatureDetector, Filters, Floor};
+use level::Level;
+use sequence::Latest;
+use vad::{Decision, Strand};
 
 // Where the parts of a strand begin; the shelf is the first.
 const HIGH_PASS: usize = 4;
@@ -66,13 +63,15 @@ struct Counts {
 }
 
 // ---- writing, from place `at` on
+//
+// Each function says how far its words reach, so that their places fit a usize: a type for a place would have to say it at each step.
 
 fn put_state(w: &mut [u64], at: usize, s: State)
     requires { at + 4 ≤ 2 ^ 64 }
     ensures { Run w.old at 4 (state.enc s) w.new }
 {
-    codec::put64(w, at, s.z1);
-    codec::put64(w, at + 1, s.z2);
+    codec::put(w, at, s.z1);
+    codec::put(w, at + 1, s.z2);
     codec::put_zeros(w, at + 2, 2);
 }
 
@@ -93,70 +92,39 @@ fn put_filters(w: &mut [u64], at: usize, f: Filters)
     put_state(w, at + 12, f.pitch2);
 }
 
-fn put_powers(w: &mut [u64], at: usize, p: Powers)
-    ensures { Run w.old at 301 (powers.enc p) w.new }
-{
-    codec::put_list(w, at, p.count, &p.list);
-}
-
+// Samples are f32, and the latest values f64.
 fn put_decimated(w: &mut [u64], at: usize, p: Decimated)
     ensures { Run w.old at 241 (decimated.enc p) w.new }
 {
-    codec::put_list32(w, at, p.count, &p.list);
-}
-
-fn put_minima(w: &mut [u64], at: usize, p: Minima)
-    ensures { Run w.old at 9 (minima.enc p) w.new }
-{
     codec::put_list(w, at, p.count, &p.list);
 }
 
-fn put_history(w: &mut [u64], at: usize, p: History)
-    ensures { Run w.old at 41 (history.enc p) w.new }
+fn put_latest<const N: usize>(w: &mut [u64], at: usize, p: Latest<N>)
+    ensures { Run w.old at (suc N) ((latest N).enc p.entry) w.new }
 {
     codec::put_list(w, at, p.count, &p.list);
-}
-
-fn put_smoothed(w: &mut [u64], at: usize, s: Smoothed)
-    ensures { Run w.old at 2 (smoothed.enc s) w.new }
-{
-    match s {
-        Smoothed::Unset => codec::put_zeros(w, at, 2),
-        Smoothed::At(x) => codec::put_some(w, at, x),
-    }
-}
-
-fn put_power(w: &mut [u64], at: usize, s: SpeechPower)
-    ensures { Run w.old at 2 (power.enc s) w.new }
-{
-    match s {
-        SpeechPower::Unset => codec::put_zeros(w, at, 2),
-        SpeechPower::At(x) => codec::put_some(w, at, x),
-    }
 }
 
 fn put_floor(w: &mut [u64], at: usize, f: Floor)
     requires { at + 13 ≤ 2 ^ 64 }
     ensures { Run w.old at 13 (floor.enc f) w.new }
 {
-    let smoothed = f.smoothed;
-    put_smoothed(w, at, smoothed);
-    codec::put64(w, at + 2, f.window_min);
+    codec::put_option(w, at, f.smoothed);
+    codec::put(w, at + 2, f.window_min);
     codec::put(w, at + 3, f.window_frames as u64);
-    put_minima(w, at + 4, f.minima);
+    put_latest(w, at + 4, f.minima);
 }
 
 fn put_decision(w: &mut [u64], at: usize, d: Decision)
     requires { at + 7 ≤ 2 ^ 64 }
     ensures { Run w.old at 7 (decision.enc d) w.new }
 {
-    codec::put_flag(w, at, d.active);
-    codec::put64(w, at + 1, d.probability);
+    codec::put(w, at, d.active);
+    codec::put(w, at + 1, d.probability);
     codec::put(w, at + 2, d.onsets);
     codec::put(w, at + 3, d.offsets);
     codec::put(w, at + 4, d.hold as u64);
-    let power = d.power;
-    put_power(w, at + 5, power);
+    codec::put_option(w, at + 5, d.power);
 }
 
 // The six filters, the fast mean square and the powers.
@@ -167,8 +135,8 @@ fn put_front(w: &mut [u64], at: usize, l: Level, f: Filters)
     put_state(w, at, l.shelf);
     put_state(w, at + HIGH_PASS, l.high_pass);
     put_filters(w, at + FILTERS, f);
-    codec::put64(w, at + FAST, l.fast);
-    put_powers(w, at + POWERS, l.powers);
+    codec::put(w, at + FAST, l.fast);
+    put_latest(w, at + POWERS, l.powers);
 }
 
 // The words of a strand, from place `at` on; what has no place in w is dropped.
@@ -179,7 +147,7 @@ pub fn put_strand(w: &mut [u64], at: u16, s: Strand)
     put_front(w, i, s.level, s.detector.filters);
     put_decimated(w, i + DECIMATED, s.detector.decimated);
     put_floor(w, i + FLOOR, s.detector.floor);
-    put_history(w, i + HISTORY, s.detector.history);
+    put_latest(w, i + HISTORY, s.detector.history);
     put_decision(w, i + DECISION, s.decision);
 }
 
@@ -189,8 +157,8 @@ fn get_state(w: &[u64], at: usize) -> State
     requires { at + 4 ≤ 2 ^ 64 }
     ensures { result ≡ state.dec w.now at }
 {
-    let z1 = codec::get64(w, at);
-    let z2 = codec::get64(w, at + 1);
+    let z1 = codec::get(w, at);
+    let z2 = codec::get(w, at + 1);
     State { z1, z2 }
 }
 
@@ -217,56 +185,20 @@ fn get_filters(w: &[u64], at: usize) -> Filters
     }
 }
 
-fn get_powers(w: &[u64], at: usize) -> Powers
-    ensures { result ≡ powers.dec w.now at }
-{
-    let mut list: [f64; 300] = [0.0; 300];
-    let count = codec::get_list(w, at, &mut list);
-    Powers { count, list }
-}
-
 fn get_decimated(w: &[u64], at: usize) -> Decimated
     ensures { result ≡ decimated.dec w.now at }
 {
     let mut list: [f32; 240] = [0.0; 240];
-    let count = codec::get_list32(w, at, &mut list);
+    let count = codec::get_list(w, at, &mut list);
     Decimated { count, list }
 }
 
-fn get_minima(w: &[u64], at: usize) -> Minima
-    ensures { result ≡ minima.dec w.now at }
+fn get_latest<const N: usize>(w: &[u64], at: usize) -> Latest<N>
+    ensures { result ≡ (latest N).dec w.now at }
 {
-    let mut list: [f64; 8] = [0.0; 8];
+    let mut list = [0.0; N];
     let count = codec::get_list(w, at, &mut list);
-    Minima { count, list }
-}
-
-fn get_history(w: &[u64], at: usize) -> History
-    ensures { result ≡ history.dec w.now at }
-{
-    let mut list: [f64; 40] = [0.0; 40];
-    let count = codec::get_list(w, at, &mut list);
-    History { count, list }
-}
-
-fn get_smoothed(w: &[u64], at: usize) -> Smoothed
-    requires { at + 2 ≤ 2 ^ 64 }
-    ensures { result ≡ smoothed.dec w.now at }
-{
-    if codec::get(w, at) == 1 {
-        return Smoothed::At(codec::get64(w, at + 1));
-    }
-    Smoothed::Unset
-}
-
-fn get_power(w: &[u64], at: usize) -> SpeechPower
-    requires { at + 2 ≤ 2 ^ 64 }
-    ensures { result ≡ power.dec w.now at }
-{
-    if codec::get(w, at) == 1 {
-        return SpeechPower::At(codec::get64(w, at + 1));
-    }
-    SpeechPower::Unset
+    Latest { count, list }
 }
 
 // The window; one that is empty and has a minimum is read as one that has none.
@@ -274,7 +206,7 @@ fn get_window(w: &[u64], at: usize) -> Window
     requires { at + 2 ≤ 2 ^ 64 }
     ensures { result ≡ window.dec w.now at }
 {
-    let least = codec::get64(w, at);
+    let least: f64 = codec::get(w, at);
     let frames = codec::get_capped(w, at + 1, WINDOW) as usize;
     if frames == 0 {
         if float::to_bits(least) != 0 {
@@ -291,9 +223,9 @@ fn get_floor(w: &[u64], at: usize) -> Floor
     requires { at + 13 ≤ 2 ^ 64 }
     ensures { result ≡ floor.dec w.now at }
 {
-    let smoothed = get_smoothed(w, at);
+    let smoothed = codec::get_option(w, at);
     let window = get_window(w, at + 2);
-    let minima = get_minima(w, at + 4);
+    let minima = get_latest(w, at + 4);
     Floor {
         smoothed,
         window_min: window.least,
@@ -307,11 +239,11 @@ fn get_counts(w: &[u64], at: usize) -> Counts
     requires { at + 4 ≤ 2 ^ 64 }
     ensures { result ≡ counts.dec w.now at }
 {
-    let active = codec::get_flag(w, at);
-    let probability = codec::get64(w, at + 1);
+    let active: bool = codec::get(w, at);
+    let probability = codec::get(w, at + 1);
     let onsets = codec::get_capped(w, at + 2, COUNTS);
     let offsets = codec::get_capped(w, at + 3, COUNTS);
-    if onsets == offsets + codec::flag_bits(active) {
+    if onsets == offsets + u64::from(active) {
         return Counts {
             active,
             probability,
@@ -333,7 +265,7 @@ fn get_decision(w: &[u64], at: usize) -> Decision
 {
     let counts = get_counts(w, at);
     let hold = codec::get_capped(w, at + 4, HOLD) as u32;
-    let power = get_power(w, at + 5);
+    let power = codec::get_option(w, at + 5);
     Decision {
         active: counts.active,
         probability: counts.probability,
@@ -352,11 +284,11 @@ pub fn get_strand(w: &[u64], at: u16) -> Strand
     let shelf = get_state(w, i);
     let high_pass = get_state(w, i + HIGH_PASS);
     let filters = get_filters(w, i + FILTERS);
-    let fast = codec::get64(w, i + FAST);
-    let powers = get_powers(w, i + POWERS);
+    let fast = codec::get(w, i + FAST);
+    let powers = get_latest(w, i + POWERS);
     let decimated = get_decimated(w, i + DECIMATED);
     let floor = get_floor(w, i + FLOOR);
-    let history = get_history(w, i + HISTORY);
+    let history = get_latest(w, i + HISTORY);
     let decision = get_decision(w, i + DECISION);
     Strand {
         level: Level {

@@ -17,7 +17,7 @@ ghost use Rattle.surround_image.specs.Surround.{
 };
 
 use channels::{Channel, Surround};
-use layout::{Layout, MOST, Place};
+use layout::{Layout, Place};
 
 // Where the parts begin; the count is the first.
 const PLACES: u32 = 1;
@@ -28,8 +28,6 @@ const PLACE_WORDS: usize = 3;
 
 const CHANNEL_WORDS: u32 = 9;
 
-const OTHER_CHANNELS: usize = 7; // channels 2 to 8
-
 const AZIMUTH: u64 = 180; // degrees: at most, on either side
 
 const ELEVATION: u64 = 90;
@@ -39,6 +37,8 @@ const FLAG: u64 = 2; // a flag is below it
 const COUNT: u64 = 9; // the number of channels is below it
 
 // ---- writing, from place `at` on
+//
+// Each function says how far its words reach, so that their places fit: a type for a place would have to say it at each step.
 
 fn put_place(w: &mut [u64], at: usize, p: Place)
     requires { at + 3 ≤ 2 ^ 64 }
@@ -53,11 +53,8 @@ fn put_places(w: &mut [u64], at: usize, v: [Place; 8])
     requires { at + 24 ≤ 2 ^ 64 }
     ensures { Run w.old at 24 (rows_enc place.enc v) w.new }
 {
-    let mut k: usize = 0;
-    while k < MOST {
-        let p = v[k];
-        put_place(w, at + PLACE_WORDS * k, p);
-        k += 1;
+    for (k, p) in v.iter().enumerate() {
+        put_place(w, at + PLACE_WORDS * k, *p);
     }
 }
 
@@ -67,18 +64,16 @@ fn put_channel(w: &mut [u64], at: u32, c: Channel)
 {
     strand_image::put_filter(w, at, c.shelf);
     strand_image::put_filter(w, at + 4, c.high_pass);
-    codec::put64(w, at as usize + 8, c.fast);
+    codec::put(w, at as usize + 8, c.fast);
 }
 
+// The same loop over channels: a trait of `codec` can't be given to a type of `layout` or `channels` here.
 fn put_others(w: &mut [u64], at: u32, v: [Channel; 7])
     requires { at + 63 ≤ 2 ^ 32 }
     ensures { Run w.old at 63 (rows_enc channel.enc v) w.new }
 {
-    let mut k: usize = 0;
-    while k < OTHER_CHANNELS {
-        let c = v[k];
-        put_channel(w, at + CHANNEL_WORDS * (k as u32), c);
-        k += 1;
+    for (k, c) in v.iter().enumerate() {
+        put_channel(w, at + CHANNEL_WORDS * (k as u32), *c);
     }
 }
 
@@ -87,11 +82,9 @@ pub fn put_surround(w: &mut [u64], at: u16, s: Surround)
     ensures { Run w.old at 88 (surround.enc s) w.new }
 {
     let i = at as u32;
-    let places = s.layout.places;
-    let others = s.others;
     codec::put(w, i as usize, s.layout.count);
-    put_places(w, (i + PLACES) as usize, places);
-    put_others(w, i + OTHERS, others);
+    put_places(w, (i + PLACES) as usize, s.layout.places);
+    put_others(w, i + OTHERS, s.others);
 }
 
 // ---- reading, from place `at` on
@@ -100,7 +93,7 @@ pub fn put_surround(w: &mut [u64], at: u16, s: Surround)
 fn get_angle(w: &[u64], at: usize, most: u64) -> u64
     ensures { result ≡ (angle most).read (get_or w.now at 0) }
 {
-    let a = codec::get(w, at);
+    let a: u64 = codec::get(w, at);
     if layout::size(a) <= most { a } else { 0 }
 }
 
@@ -126,18 +119,14 @@ fn get_place(w: &[u64], at: usize) -> Place
     }
 }
 
-// The places of n channels, and blank ones after them.
+// The places of n channels, and blank ones after them; `get_others` is the same loop over channels, for the reason at `put_others`.
 fn get_places(w: &[u64], at: usize, n: usize) -> [Place; 8]
     requires { (at + 24 ≤ 2 ^ 64) × (n ≤ 8) }
     ensures { result ≡ (rows place blank 8 n).dec w.now at }
 {
-    let fresh = Layout::new();
-    let mut v = fresh.places;
-    let mut k: usize = 0;
-    while k < n {
-        let p = get_place(w, at + PLACE_WORDS * k);
-        v[k] = p;
-        k += 1;
+    let mut v = Layout::new().places;
+    for k in 0..n {
+        v[k] = get_place(w, at + PLACE_WORDS * k);
     }
     v
 }
@@ -148,7 +137,7 @@ fn get_channel(w: &[u64], at: u32) -> Channel
 {
     let shelf = strand_image::get_filter(w, at);
     let high_pass = strand_image::get_filter(w, at + 4);
-    let fast = codec::get64(w, at as usize + 8);
+    let fast = codec::get(w, at as usize + 8);
     Channel {
         shelf,
         high_pass,
@@ -161,13 +150,9 @@ fn get_others(w: &[u64], at: u32, n: usize) -> [Channel; 7]
     requires { (at + 63 ≤ 2 ^ 32) × (n ≤ 7) }
     ensures { result ≡ (rows channel resting 7 n).dec w.now at }
 {
-    let fresh = Surround::new();
-    let mut v = fresh.others;
-    let mut k: usize = 0;
-    while k < n {
-        let c = get_channel(w, at + CHANNEL_WORDS * (k as u32));
-        v[k] = c;
-        k += 1;
+    let mut v = Surround::new().others;
+    for k in 0..n {
+        v[k] = get_channel(w, at + CHANNEL_WORDS * (k as u32));
     }
     v
 }

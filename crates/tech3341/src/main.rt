@@ -9,7 +9,7 @@ ghost use Rattle.std.specs.Prelude.{◌<◌, ◌≤◌};
 
 use float::Lufs;
 use level::{FRAME, Level};
-use std::io;
+use std::{array, fmt, io};
 
 const TOLERANCE: f64 = 0.1; // LU
 
@@ -93,6 +93,13 @@ const AMPLITUDES: [f32; 20] = [
     0.012589254,
 ];
 
+// A tone at so many dB below full scale (peak): one of those in the table.
+#[derive(Clone, Copy)]
+struct Tone {
+    below: u8,
+    ghost in_table: { (19 ≤ below) × (below < 39) },
+}
+
 // Which of the two readings a requirement is of.
 #[derive(Clone, Copy)]
 enum Window {
@@ -100,7 +107,14 @@ enum Window {
     ShortTerm,
 }
 
-// The least and the greatest of some readings, LUFS.
+// What was read of a tone, LUFS. It is printed with what the document expects, and with whether that is met.
+#[derive(Clone, Copy)]
+struct Tried {
+    read: f64,
+    tone: Tone,
+}
+
+// The least and the greatest of some readings, LUFS, by the port's min and max: std's answer otherwise at ties of zeros and at NaN.
 #[derive(Clone, Copy)]
 struct Extremes {
     least: f64,
@@ -116,40 +130,81 @@ struct Meter {
     short_term: Extremes,
 }
 
-// A twentieth of the window, frames.
-fn twentieth(w: Window) -> u64
-    ensures { result ≤ 15 }
-{
-    match w {
-        Window::Momentary => 2,
-        Window::ShortTerm => 15,
-    }
-}
-
-fn amplitude(below: u64) -> f32
-    requires { (19 ≤ below) × (below < 39) }
-{
-    AMPLITUDES[(below - 19) as usize]
-}
-
 // A frame of the sine.
 fn samples(amplitude: f32) -> [f32; FRAME] {
-    let mut x = [0.0f32; FRAME];
-    let mut k = 0;
-    while k < FRAME {
-        x[k] = SINE[k % 48] * amplitude;
-        k += 1;
+    array::from_fn(|k| SINE[k % 48] * amplitude)
+}
+
+// A negative number of LUFS as tenths below 0, rounded; 0 for any other.
+fn tenths(lufs: f64) -> u64 {
+    let t = 0.5 - 10.0 * lufs;
+    if t > -1.0 && t < 18446744073709551616.0 {
+        std::num::truncating_f64_to_u64(t)
+    } else {
+        0
     }
-    x
+}
+
+impl Tone {
+    fn at(below: u8) -> Self
+        requires { (19 ≤ below) × (below < 39) }
+    {
+        Self { below }
+    }
+
+    fn amplitude(self) -> f32 {
+        AMPLITUDES[usize::from(self.below - 19)]
+    }
+}
+
+impl Window {
+    // A twentieth of the window, frames.
+    fn twentieth(self) -> u64
+        ensures { result ≤ 15 }
+    {
+        match self {
+            Self::Momentary => 2,
+            Self::ShortTerm => 15,
+        }
+    }
+}
+
+impl fmt::Display for Window {
+    fn fmt<W: fmt::Write>(&self, f: &mut fmt::Formatter<W>) -> fmt::Result {
+        match self {
+            Window::Momentary => write!(f, "M"),
+            Window::ShortTerm => write!(f, "S"),
+        }
+    }
+}
+
+impl Tried {
+    // Whether the reading is what the document expects of the tone.
+    fn is_met(self) -> bool {
+        let expected = -(f64::from(self.tone.below) + MONO);
+        self.read - expected <= TOLERANCE && expected - self.read <= TOLERANCE
+    }
+}
+
+impl fmt::Display for Tried {
+    fn fmt<W: fmt::Write>(&self, f: &mut fmt::Formatter<W>) -> fmt::Result {
+        let t = tenths(self.read);
+        let whole = t / 10;
+        let tenth = t % 10;
+        let expected = self.tone.below + 3;
+        let verdict = if self.is_met() { "met" } else { "missed" };
+        write!(
+            f,
+            "-{whole}.{tenth} LUFS, expected -{expected}.01 within 0.1 LU: {verdict}"
+        )
+    }
 }
 
 impl Extremes {
-    fn none() -> Self {
-        Self {
-            least: 1000.0,
-            greatest: -1000.0,
-        }
-    }
+    const NONE: Extremes = Extremes {
+        least: 1000.0,
+        greatest: -1000.0,
+    };
 
     fn with(self, reading: Lufs) -> Extremes {
         Extremes {
@@ -161,12 +216,11 @@ impl Extremes {
 
 impl Meter {
     fn new(unread: u64) -> Self {
-        let level = Level::new();
         Self {
-            level,
+            level: Level::new(),
             unread,
-            momentary: Extremes::none(),
-            short_term: Extremes::none(),
+            momentary: Extremes::NONE,
+            short_term: Extremes::NONE,
         }
     }
 
@@ -175,9 +229,7 @@ impl Meter {
         let level = self.level;
         Meter {
             level,
-            unread: 0,
-            momentary: Extremes::none(),
-            short_term: Extremes::none(),
+            ..Meter::new(0)
         }
     }
 
@@ -185,135 +237,89 @@ impl Meter {
         let f = self.level.frame(x);
         let level = f.level;
         let reading = f.reading;
-        let momentary = self.momentary;
-        let short_term = self.short_term;
         if 0 < self.unread {
             return Meter {
                 level,
                 unread: self.unread - 1,
-                momentary,
-                short_term,
+                ..self
             };
         }
         Meter {
             level,
-            unread: 0,
-            momentary: momentary.with(reading.momentary),
-            short_term: short_term.with(reading.short_term),
+            momentary: self.momentary.with(reading.momentary),
+            short_term: self.short_term.with(reading.short_term),
+            ..self
         }
     }
 
     // Frames of the sine; of silence where the amplitude is 0.
     fn play(mut self, amplitude: f32, frames: u64) -> Meter {
         let x = samples(amplitude);
-        let mut i = 0;
-        while i < frames {
+        for _ in 0..frames {
             self = self.frame(&x);
-            i += 1;
         }
         self
     }
 
+    fn silence(self, frames: u64) -> Meter {
+        self.play(0.0, frames)
+    }
+
+    fn tone(self, tone: Tone, frames: u64) -> Meter {
+        self.play(tone.amplitude(), frames)
+    }
+
     // As many silences of some frames each.
-    fn silent(mut self, frames: u64, times: u64) -> Meter {
-        let mut i = 0;
-        while i < times {
-            self = self.play(0.0, frames);
-            i += 1;
+    fn silences(mut self, frames: u64, times: u64) -> Meter {
+        for _ in 0..times {
+            self = self.silence(frames);
         }
         self
     }
 
     // i twentieths of a window of silence, then a tone that fills the window.
-    fn burst(self, w: Window, i: u64, below: u64) -> Meter
-        requires { (19 ≤ below) × (below < 39) }
-    {
-        let frames = twentieth(w);
-        self.silent(frames, i).play(amplitude(below), 20 * frames)
+    fn burst(self, w: Window, i: u64, tone: Tone) -> Meter {
+        let frames = w.twentieth();
+        self.silences(frames, i).tone(tone, 20 * frames)
     }
 
     fn extremes(self, w: Window) -> Extremes {
-        let momentary = self.momentary;
-        let short_term = self.short_term;
         match w {
-            Window::Momentary => momentary,
-            Window::ShortTerm => short_term,
+            Window::Momentary => self.momentary,
+            Window::ShortTerm => self.short_term,
         }
-    }
-}
-
-fn letter(w: Window) -> &'static str {
-    match w {
-        Window::Momentary => "M",
-        Window::ShortTerm => "S",
-    }
-}
-
-// A negative number of LUFS as tenths below 0, rounded; 0 for any other.
-fn tenths(lufs: f64) -> u64 {
-    let t = 0.5 - 10.0 * lufs;
-    if t > -1.0 {
-        if t < 18446744073709551616.0 {
-            return std::num::truncating_f64_to_u64(t);
-        }
-    }
-    0
-}
-
-// Whether a reading is what the document expects of a tone at this level.
-fn met(lufs: f64, below: u64) -> bool {
-    let expected = -(std::num::nearest_u64_to_f64(below) + MONO);
-    if lufs - expected <= TOLERANCE {
-        return expected - lufs <= TOLERANCE;
-    }
-    false
-}
-
-// The end of a line: what was read, what was expected, and whether that is met.
-fn print_reading(rt: &impl Print, lufs: f64, below: u64) -> io::Result<()>
-    requires { below < 39 }
-{
-    let t = tenths(lufs);
-    let whole = t / 10;
-    let tenth = t % 10;
-    let expected = below + 3;
-    print!(rt; " -{whole}.{tenth} LUFS, expected -{expected}.01 within 0.1 LU: ")?;
-    if met(lufs, below) {
-        print!(rt; "met\n")
-    } else {
-        print!(rt; "missed\n")
     }
 }
 
 // A reading that is to stay the same.
-fn constant(rt: &impl Print, case: u64, m: Meter, w: Window, below: u64) -> io::Result<()>
-    requires { below < 39 }
-{
+fn constant(rt: &impl Print, case: u64, m: Meter, w: Window, tone: Tone) -> io::Result<()> {
     let e = m.extremes(w);
-    let window = letter(w);
-    print!(rt; "case {case}, {window}, least")?;
-    print_reading(rt, e.least, below)?;
-    print!(rt; "case {case}, {window}, greatest")?;
-    print_reading(rt, e.greatest, below)
+    let least = Tried {
+        read: e.least,
+        tone,
+    };
+    let greatest = Tried {
+        read: e.greatest,
+        tone,
+    };
+    println!(rt; "case {case}, {w}, least {least}")?;
+    println!(rt; "case {case}, {w}, greatest {greatest}")
 }
 
 // The greatest reading of segment i.
-fn greatest(rt: &impl Print, case: u64, m: Meter, w: Window, i: u64, below: u64) -> io::Result<()>
-    requires { below < 39 }
-{
-    let e = m.extremes(w);
-    let window = letter(w);
-    print!(rt; "case {case}, i = {i}, {window}, greatest")?;
-    print_reading(rt, e.greatest, below)
+fn greatest(rt: &impl Print, case: u64, m: Meter, w: Window, i: u64, tone: Tone) -> io::Result<()> {
+    let greatest = Tried {
+        read: m.extremes(w).greatest,
+        tone,
+    };
+    println!(rt; "case {case}, i = {i}, {w}, greatest {greatest}")
 }
 
 // Cases 1 and 2: a tone of 20 s. M and S are constant from the first frame on: while there are fewer frames than a window has, it has those.
-fn steady(rt: &impl Print, case: u64, below: u64) -> io::Result<()>
-    requires { (19 ≤ below) × (below < 39) }
-{
-    let m = Meter::new(0).play(amplitude(below), 20 * SECOND);
-    constant(rt, case, m, Window::Momentary, below)?;
-    constant(rt, case, m, Window::ShortTerm, below)
+fn steady(rt: &impl Print, case: u64, tone: Tone) -> io::Result<()> {
+    let m = Meter::new(0).tone(tone, 20 * SECOND);
+    constant(rt, case, m, Window::Momentary, tone)?;
+    constant(rt, case, m, Window::ShortTerm, tone)
 }
 
 // Cases 9 and 12: a tone at -20 dBFS and then at -30 dBFS, over and over. The reading is constant after `unread` frames.
@@ -327,23 +333,20 @@ fn alternating(
     times: u64,
 ) -> io::Result<()> {
     let mut m = Meter::new(unread);
-    let mut i = 0;
-    while i < times {
-        m = m.play(amplitude(20), loud).play(amplitude(30), soft);
-        i += 1;
+    for _ in 0..times {
+        m = m.tone(Tone::at(20), loud).tone(Tone::at(30), soft);
     }
-    constant(rt, case, m, w, 23)
+    constant(rt, case, m, w, Tone::at(23))
 }
 
 // Cases 10 and 13, for meters of files: silence for i twentieths of the window, a tone of the window's length at -23 dBFS, silence of 1 s.
 // Each file has a fresh level.
 // The document has 20 files. Here i goes from 0 to 20, so that they are among these whether it counts from 0 or from 1.
 fn files(rt: &impl Print, case: u64, w: Window) -> io::Result<()> {
-    let mut i = 0;
-    while i <= 20 {
-        let m = Meter::new(0).burst(w, i, 23).play(0.0, SECOND);
-        greatest(rt, case, m, w, i, 23)?;
-        i += 1;
+    let tone = Tone::at(23);
+    for i in 0..=20 {
+        let m = Meter::new(0).burst(w, i, tone).silence(SECOND);
+        greatest(rt, case, m, w, i, tone)?;
     }
     Ok(())
 }
@@ -352,20 +355,22 @@ fn files(rt: &impl Print, case: u64, w: Window) -> io::Result<()> {
 // The document expects -38 to -19 of them, so the tone of segment i is taken to be at i - 38 dBFS, with i from 0 to 19.
 // (Were i counted from 1 and the first tone at -38 dBFS all the same, each tone would come a twentieth of the window later.)
 fn live(rt: &impl Print, case: u64, w: Window) -> io::Result<()> {
-    let frames = twentieth(w);
     let mut m = Meter::new(0);
-    let mut i = 0;
-    while i < 20 {
-        m = m.again().burst(w, i, 38 - i).silent(frames, 20 - i);
-        greatest(rt, case, m, w, i, 38 - i)?;
-        i += 1;
+    for i in 0..20u8 {
+        let segment = u64::from(i);
+        let tone = Tone::at(38 - i);
+        m = m
+            .again()
+            .burst(w, segment, tone)
+            .silences(w.twentieth(), 20 - segment);
+        greatest(rt, case, m, w, segment, tone)?;
     }
     Ok(())
 }
 
 fn main(rt: HostRuntime) -> io::Result<()> {
-    steady(&rt, 1, 23)?;
-    steady(&rt, 2, 33)?;
+    steady(&rt, 1, Tone::at(23))?;
+    steady(&rt, 2, Tone::at(33))?;
     alternating(&rt, 9, Window::ShortTerm, 3 * SECOND, 134, 166, 5)?;
     files(&rt, 10, Window::ShortTerm)?;
     live(&rt, 11, Window::ShortTerm)?;

@@ -1,4 +1,3 @@
-pub mod Saturate
 pub mod Hold
 pub mod Finished
 pub mod Examples

@@ -1,10 +1,11 @@
 -- A strand agrees with the Rust's `Vad`: fresh, after a reset, and after each frame whose numbers are finite; so after any list of these.
-use Rattle.std.proofs.Common.{◌≡◌, ℕ, ◌+◌, ◌-◌, ◌%◌, ◌^◌, Bool, true, false, cond, ◌&&◌, T, eqb, List, [], ◌∷◌, length, sym, refl, ap, ◌∙◌, ap₂}
+use Rattle.std.proofs.Common.{◌≡◌, ℕ, ◌+◌, ◌-◌, ◌%◌, ◌^◌, Bool, true, false, cond, ◌&&◌, T, eqb, List, [], ◌∷◌, length, sym, refl, ap, ◌∙◌, ap₂, Option, Some}
 use mathlib.Core.List.{foldl}
 use lib.ListN.{length-replicate}
 use lib.Ieee.{Float, lt, le}
 use lib.Ieee.Fits.{and_l, and_r}
 use Rattle.power.specs.Power.{exp10_of}
+use Rattle.sequence.specs.Latest.{zeros}
 use Rattle.level.specs.Level as level
 use Rattle.float.specs.Arithmetic.{zero64}
 use Rattle.float.specs.AllFinite.{all_finite}
@@ -16,8 +17,6 @@ use Rattle.detector.specs.Detector as detector
 use Rattle.detector.specs.Rust.{rust_frame}
 use Rattle.detector.proofs.Rust as detected
 use Rattle.vad.specs.declared.VadSettings.{VadSettings}
-use Rattle.vad.specs.declared.SpeechPower.{SpeechPower}
-use Rattle.vad.specs.declared.SpeechPower.TheVariants as stored
 use Rattle.vad.specs.declared.Decision.{Decision}
 use Rattle.vad.specs.declared.Strand.{Strand}
 use Rattle.vad.specs.Hold.{hold_frames}
@@ -73,7 +72,7 @@ voices : (d : Decision) (dbfs : Float) → speech_at (voiced_of d dbfs) ≡ rust
 unfolding voiced_of rust_speech
 voices d dbfs = go d.active
   where
-    go : (b : Bool) → speech_at (cond b (with_power d (stored.At (mean_of d.power (exp10_of (exponent dbfs))))) d)
+    go : (b : Bool) → speech_at (cond b (with_power d (Some (mean_of d.power (exp10_of (exponent dbfs))))) d)
         ≡ cond b (speech (mean_of d.power (exp10_of (exponent dbfs)))) (speech_at d)
     go true = unfold speech_level_of in refl
     go false = refl
@@ -82,8 +81,8 @@ voices_else : (d : Decision) (dbfs : Float) → (switch_at (voiced_of d dbfs) �
 unfolding voiced_of
 voices_else d dbfs = go d.active
   where
-    go : (b : Bool) → (switch_at (cond b (with_power d (stored.At (mean_of d.power (exp10_of (exponent dbfs))))) d) ≡ switch_at d)
-        × ((cond b (with_power d (stored.At (mean_of d.power (exp10_of (exponent dbfs))))) d).probability ≡ d.probability)
+    go : (b : Bool) → (switch_at (cond b (with_power d (Some (mean_of d.power (exp10_of (exponent dbfs))))) d) ≡ switch_at d)
+        × ((cond b (with_power d (Some (mean_of d.power (exp10_of (exponent dbfs))))) d).probability ≡ d.probability)
     go true = (refl, refl)
     go false = (refl, refl)
 
@@ -112,7 +111,7 @@ module _ (d : Decision) (probability dbfs : Float) (s : VadSettings) where
   unfolding decide_of
   decide-speech =
       voices half dbfs
-      ∙ ap₂ (λ (t : Switch) (o : SpeechPower). rust_speech t.active (record { power = o; level = speech_level_of o }) dbfs) half_is.switched half_is.power
+      ∙ ap₂ (λ (t : Switch) (o : Option Float). rust_speech t.active (record { power = o; level = speech_level_of o }) dbfs) half_is.switched half_is.power
 
 -- ---- a frame, whose level is read as l and as the Rust's r and m
 
@@ -205,8 +204,8 @@ module _ (t : Strand) (v : RustVad Meter) (a : Agrees t v) (xs : List Float) (n 
 
 -- ---- fresh, and a reset
 
-fresh-places : length level.zeros ≡ 300
-unfolding level.zeros
+fresh-places : length (zeros 300) ≡ 300
+unfolding zeros
 fresh-places = length-replicate 300 zero64
 
 -- a level's new form is the Rust's

@@ -1,5 +1,5 @@
 -- A fresh strand is valid; a reset keeps that, and so does a frame whose numbers are all finite and which doesn't fill the onsets.
-use Rattle.std.proofs.Common.{◌≡◌, ℕ, ◌+◌, ◌%◌, ◌^◌, ◌<◌, ◌≤◌, Bool, true, false, cond, ◌&&◌, T, eqb, List, get_or, sym, refl, ◌∙◌, mod-eq_of_lt, arith, leb-false}
+use Rattle.std.proofs.Common.{◌≡◌, ℕ, ◌+◌, ◌%◌, ◌^◌, ◌<◌, ◌≤◌, Bool, true, false, cond, ◌&&◌, T, eqb, List, get_or, sym, refl, ◌∙◌, mod-eq_of_lt, arith, leb-false, Option, Some, None, IfSome, unwrap_or}
 use lib.Ieee.{Float, nan, binary64, fits, lt, le, neg, mul, is_nan, of_bits}
 use lib.Ieee.Fits.{add-fits, cond-fits, nan-fits, round-fits, and_l, and_r}
 use lib.Ieee.Scale.{finite}
@@ -18,15 +18,13 @@ use Rattle.detector.specs.Valid as detector
 use Rattle.detector.specs.declared.Heard.{Heard}
 use Rattle.detector.proofs.Valid as detectors
 use Rattle.vad.specs.declared.VadSettings.{VadSettings}
-use Rattle.vad.specs.declared.SpeechPower.{SpeechPower}
-use Rattle.vad.specs.declared.SpeechPower.TheVariants.{Unset, At}
 use Rattle.vad.specs.declared.Decision.{Decision}
 use Rattle.vad.specs.declared.Strand.{Strand}
 use Rattle.vad.specs.Hold.{hold_frames}
 use Rattle.vad.specs.Decision.{flag_of, more, heard_of, smoothed_of, off_of, onset_of, held_of, offset_of, switch_of, mean_of, with_power, with_probability, exponent, voiced_of, decide_of, full_of}
-use Rattle.vad.specs.State.{state_of, power_number, numbers_of}
+use Rattle.vad.specs.State.{state_of, numbers_of}
 use Rattle.vad.specs.Strand.{gated_of, next_of, fresh_of, finish_of, frame_of, stopped_of, reset_of}
-use Rattle.vad.specs.Valid.{PowerValid, DecisionValid, Valid, HoldWithin}
+use Rattle.vad.specs.Valid.{DecisionValid, Valid, HoldWithin}
 use Rattle.vad.proofs.Hold.{hold-few}
 use Rattle.vad.proofs.Rust.{decide-probability}
 
@@ -91,7 +89,7 @@ module _ (d : Decision) (v : Even d) (room : d.onsets ≤ 4294967295) where
 -- the speech power leaves them alone
 module _ (d : Decision) (dbfs : Float) where
   abbrev voiced : Bool → Decision
-  voiced b = cond b (with_power d (At (mean_of d.power (exp10_of (exponent dbfs))))) d
+  voiced b = cond b (with_power d (Some (mean_of d.power (exp10_of (exponent dbfs))))) d
 
   voiced-even : Even d → Even (voiced_of d dbfs)
   unfolding voiced_of
@@ -124,10 +122,10 @@ unfolding full_of
 limit before after h b a = leb-false 4294967295 before.onsets (rw (b, a) at h)
 
 -- each number fits, whatever it is
-mean-fits : (o : SpeechPower) (x : Float) → T (fits binary64 x) → T (fits binary64 (mean_of o x))
+mean-fits : (o : Option Float) (x : Float) → T (fits binary64 x) → T (fits binary64 (mean_of o x))
 unfolding mean_of
-mean-fits Unset x h = h
-mean-fits (At m) x h = add-fits binary64 _ _
+mean-fits None x h = h
+mean-fits (Some m) x h = add-fits binary64 _ _
 
 power-fits : (u : Float) → T (fits binary64 (exp10_of u))
 unfolding exp10_of exp2_of pow_at
@@ -140,11 +138,11 @@ power-fits u =
     zero-fits : T (fits binary64 zero64)
     zero-fits = unfold of_bits fits in tt
 
-voiced-power : (d : Decision) (dbfs : Float) → PowerValid d.power → T (finite (power_number (voiced_of d dbfs).power)) → PowerValid (voiced_of d dbfs).power
-unfolding voiced_of power_number
+voiced-power : (d : Decision) (dbfs : Float) → IfSome d.power (Num binary64) → T (finite (unwrap_or (voiced_of d dbfs).power zero64)) → IfSome (voiced_of d dbfs).power (Num binary64)
+unfolding voiced_of
 voiced-power d dbfs v = go d.active
   where
-    go : (b : Bool) → T (finite (power_number (voiced d dbfs b).power)) → PowerValid (voiced d dbfs b).power
+    go : (b : Bool) → T (finite (unwrap_or (voiced d dbfs b).power zero64)) → IfSome (voiced d dbfs b).power (Num binary64)
     go true h = (h, mean-fits d.power (exp10_of (exponent dbfs)) (power-fits (exponent dbfs)))
     go false h = v
 
@@ -163,7 +161,7 @@ probability-fits : (d : Decision) (p dbfs : Float) (s : VadSettings) → T (fits
 probability-fits d p dbfs s = rw (decide-probability d p dbfs s) (unfold smoothed_of in add-fits binary64 _ _)
 
 module _ (d : Decision) (v : DecisionValid d) (p dbfs : Float) (s : VadSettings) (within : HoldWithin s)
-    (sound : T (finite (decide_of d p dbfs s).probability)) (stored : T (finite (power_number (decide_of d p dbfs s).power)))
+    (sound : T (finite (decide_of d p dbfs s).probability)) (stored : T (finite (unwrap_or (decide_of d p dbfs s).power zero64)))
     (room : full_of d (decide_of d p dbfs s) ≡ false) where
   abbrev begun : Decision
   begun = with_probability d (smoothed_of d.probability p)

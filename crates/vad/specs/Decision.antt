@@ -1,13 +1,11 @@
 -- The decision of `Vad::frame`: gate, smoothing, threshold with hysteresis, hold, counts and speech power. Counts wrap at 2 ^ 64.
-use Rattle.std.specs.Prelude.{ℕ, ◌+◌, ◌-◌, ◌%◌, ◌^◌, Bool, true, false, cond, ◌==◌, from_bits, nat_le, Float}
+use Rattle.std.specs.Prelude.{ℕ, ◌+◌, ◌-◌, ◌%◌, ◌^◌, Bool, true, false, cond, ◌==◌, from_bits, nat_le, Float, Option, Some, None}
 use Rattle.std.specs.Float.{binary64}
 use Rattle.std.specs.Float.Ieee.{lt, le}
 use Rattle.float.specs.Choice.{max_of}
 use Rattle.power.specs.Power.{exp10_of}
 use Rattle.float.specs.Arithmetic.{◌⊕◌, ◌⊖◌, ◌⊗◌, ◌⊘◌, zero64}
 use Rattle.vad.specs.declared.VadSettings.{VadSettings}
-use Rattle.vad.specs.declared.SpeechPower.{SpeechPower}
-use Rattle.vad.specs.declared.SpeechPower.TheVariants.{Unset, At}
 use Rattle.vad.specs.declared.Decision.{Decision}
 use Rattle.vad.specs.Hold.{hold_frames}
 
@@ -70,11 +68,11 @@ unfoldable pub switch_of : Decision → Float → Float → ℕ → Decision
 switch_of d on off n = cond (le on d.probability) (onset_of d n) (cond d.active (cond (lt d.probability off) (offset_of d) d) d)
 
 -- the first power, or 0.01 of the way to it
-unfoldable pub mean_of : SpeechPower → Float → Float
-mean_of Unset p = p
-mean_of (At m) p = m ⊕ from_bits binary64 0x3f847ae147ae147b ⊗ (p ⊖ m)
+unfoldable pub mean_of : Option Float → Float → Float
+mean_of None p = p
+mean_of (Some m) p = m ⊕ from_bits binary64 0x3f847ae147ae147b ⊗ (p ⊖ m)
 
-abbrev pub with_power : Decision → SpeechPower → Decision
+abbrev pub with_power : Decision → Option Float → Decision
 with_power d p = record {
   active = d.active;
   probability = d.probability;
@@ -89,7 +87,7 @@ abbrev pub exponent : Float → Float
 exponent level = level ⊘ from_bits binary64 0x4024000000000000
 
 unfoldable pub voiced_of : Decision → Float → Decision
-voiced_of d level = cond d.active (with_power d (At (mean_of d.power (exp10_of (exponent level))))) d
+voiced_of d level = cond d.active (with_power d (Some (mean_of d.power (exp10_of (exponent level))))) d
 
 abbrev pub with_probability : Decision → Float → Decision
 with_probability d p = record {

@@ -1,5 +1,5 @@
 -- The Rust's `Vad` as its file has it: the readings are kept in its state, and `push` takes a frame to level, detector and decision.
-use Rattle.std.specs.Prelude.{ℕ, ◌+◌, ◌-◌, ◌%◌, ◌^◌, Bool, true, false, cond, List, ◌==◌, Float}
+use Rattle.std.specs.Prelude.{ℕ, ◌+◌, ◌-◌, ◌%◌, ◌^◌, Bool, true, false, cond, List, ◌==◌, Float, Option, Some, None}
 use Rattle.std.specs.Float.Ieee.{lt, le}
 use Rattle.power.specs.Power.{exp10_of}
 use Rattle.float.specs.Arithmetic.{zero64}
@@ -8,10 +8,6 @@ use Rattle.level.specs.Deque.{Meter, new_meter, meter_next, meter_reading}
 use Rattle.detector.specs.Steps.{silence_db, db_of}
 use Rattle.detector.specs.Rust.{RustDetector, RustHeard, rust_fresh, rust_frame}
 use Rattle.vad.specs.declared.VadSettings.{VadSettings}
-use Rattle.vad.specs.declared.SpeechPower as power
-use Rattle.vad.specs.declared.SpeechPower.TheVariants as stored
-use Rattle.vad.specs.declared.SpeechLevel as level
-use Rattle.vad.specs.declared.SpeechLevel.TheVariants as shown
 use Rattle.vad.specs.declared.VadState.{VadState}
 use Rattle.vad.specs.Hold.{hold_frames}
 use Rattle.vad.specs.Decision.{smoothed_of, off_of, flag_of, more, mean_of, exponent}
@@ -22,7 +18,7 @@ pub record RustVad (L : Type 0) : Type 0 where
   pub detector : RustDetector
   pub state : VadState
   pub hold : ℕ
-  pub speech_power : power.SpeechPower
+  pub speech_power : Option Float
   pub level : L
 
 -- `VadState` with `level_dbfs` at the silence floor, and all else at its default but the counts
@@ -30,7 +26,7 @@ abbrev pub quiet : ℕ → ℕ → VadState
 quiet onsets offsets = record {
   speech_active = false;
   speech_probability = zero64;
-  speech_level = shown.Unset;
+  speech_level = None;
   level_dbfs = silence_db;
   momentary_lufs = record { 0 = zero64 };
   gated = false;
@@ -41,7 +37,7 @@ quiet onsets offsets = record {
 }
 
 abbrev pub silent_vad : {L : Type 0} → L → VadState → RustVad L
-silent_vad l s = record { detector = rust_fresh; state = s; hold = 0; speech_power = stored.Unset; level = l }
+silent_vad l s = record { detector = rust_fresh; state = s; hold = 0; speech_power = None; level = l }
 
 -- `Vad::new` with a new level, and `Vad::reset`, which makes the level anew
 abbrev pub new_with : {L : Type 0} → L → RustVad L
@@ -82,11 +78,11 @@ rust_switch s p on frames =
 -- ---- the speech power and the level shown of it: both change only while speech is on
 
 pub record Speech : Type 0 where
-  pub power : power.SpeechPower
-  pub level : level.SpeechLevel
+  pub power : Option Float
+  pub level : Option Float
 
 abbrev pub speech : Float → Speech
-speech mean = record { power = stored.At mean; level = shown.Dbfs (tenths_of (db_of mean)) }
+speech mean = record { power = Some mean; level = Some (tenths_of (db_of mean)) }
 
 unfoldable pub rust_speech : Bool → Speech → Float → Speech
 rust_speech active s dbfs = cond active (speech (mean_of s.power (exp10_of (exponent dbfs)))) s

@@ -1,26 +1,21 @@
 -- What is answered of a strand: the Rust's `VadState` but the detector's name. The speech level follows from the stored speech power.
-use Rattle.std.specs.Prelude.{Bool, cond, List, [], ◌∷◌, from_bits, Float}
-use Rattle.std.specs.Float.{binary64}
-use Rattle.float.specs.Whole.{round_of}
-use Rattle.float.specs.Arithmetic.{◌⊗◌, ◌⊘◌, zero64}
+use Rattle.std.specs.Prelude.{Bool, cond, List, [], ◌∷◌, Float, Option, option_map, unwrap_or}
+use Rattle.float.specs.Whole.{round_to}
+use Rattle.float.specs.Arithmetic.{zero64, ten64, hundred64}
 use Rattle.level.specs.declared.Reading.{Reading}
 use Rattle.detector.specs.declared.Features.{Features}
 use Rattle.detector.specs.declared.Frame.{Frame}
 use Rattle.detector.specs.Steps.{db_of}
-use Rattle.vad.specs.declared.SpeechPower as power
-use Rattle.vad.specs.declared.SpeechPower.TheVariants as stored
-use Rattle.vad.specs.declared.SpeechLevel as level
-use Rattle.vad.specs.declared.SpeechLevel.TheVariants as shown
 use Rattle.vad.specs.declared.Decision.{Decision}
 use Rattle.vad.specs.declared.VadState.{VadState}
 use Rattle.vad.specs.Decision.{exponent}
 
 -- to 0.1 and to 0.01
 unfoldable pub tenths_of : Float → Float
-tenths_of x = round_of binary64 (x ⊗ from_bits binary64 0x4024000000000000) ⊘ from_bits binary64 0x4024000000000000
+tenths_of x = round_to x ten64
 
 unfoldable pub hundredths_of : Float → Float
-hundredths_of x = round_of binary64 (x ⊗ from_bits binary64 0x4059000000000000) ⊘ from_bits binary64 0x4059000000000000
+hundredths_of x = round_to x hundred64
 
 unfoldable pub rounded_of : Features → Features
 rounded_of f = record {
@@ -30,9 +25,8 @@ rounded_of f = record {
   anti = hundredths_of f.anti;
 }
 
-unfoldable pub speech_level_of : power.SpeechPower → level.SpeechLevel
-speech_level_of stored.Unset = shown.Unset
-speech_level_of (stored.At m) = shown.Dbfs (tenths_of (db_of m))
+unfoldable pub speech_level_of : Option Float → Option Float
+speech_level_of p = option_map (λ m. tenths_of (db_of m)) p
 
 -- with the decision d after the frame
 unfoldable pub state_of : Decision → Bool → Frame → Reading → VadState
@@ -51,14 +45,6 @@ state_of d gated f r = record {
 
 -- ---- refusal 4
 
-unfoldable pub power_number : power.SpeechPower → Float
-power_number stored.Unset = zero64
-power_number (stored.At m) = m
-
-unfoldable pub level_number : level.SpeechLevel → Float
-level_number shown.Unset = zero64
-level_number (shown.Dbfs x) = x
-
 -- what goes to the power while speech is on; nothing counts as 0
 abbrev pub handed_of : Decision → VadState → Float
 handed_of d s = cond d.active (exponent s.level_dbfs) zero64
@@ -67,9 +53,9 @@ handed_of d s = cond d.active (exponent s.level_dbfs) zero64
 abbrev pub numbers_of : Decision → VadState → List Float
 numbers_of d s =
     d.probability
-    ∷ power_number d.power
+    ∷ unwrap_or d.power zero64
     ∷ handed_of d s
-    ∷ level_number s.speech_level
+    ∷ unwrap_or s.speech_level zero64
     ∷ s.level_dbfs
     ∷ s.momentary_lufs.0
     ∷ s.short_term_lufs.0

@@ -1,5 +1,5 @@
 -- One strand: level, detector and decision, as `Vad::push` runs them; and its reset.
-use Rattle.std.specs.Prelude.{ℕ, ◌+◌, ◌%◌, ◌^◌, Bool, false, ◌&&◌, List, Float}
+use Rattle.std.specs.Prelude.{ℕ, ◌+◌, ◌%◌, ◌^◌, Bool, false, ◌&&◌, List, Float, None}
 use Rattle.std.specs.Float.Ieee.{lt}
 use Rattle.float.specs.Arithmetic.{zero64}
 use Rattle.float.specs.AllFinite.{all_finite}
@@ -8,7 +8,6 @@ use Rattle.level.specs.declared.Framed as metered
 use Rattle.detector.specs.declared.Heard.{Heard}
 use Rattle.detector.specs.Detector as detector
 use Rattle.vad.specs.declared.VadSettings.{VadSettings}
-use Rattle.vad.specs.declared.SpeechPower.TheVariants.{Unset}
 use Rattle.vad.specs.declared.Decision.{Decision}
 use Rattle.vad.specs.declared.VadState.{VadState}
 use Rattle.vad.specs.declared.Strand.{Strand}
@@ -20,7 +19,7 @@ use Rattle.vad.specs.State.{state_of, numbers_of}
 
 abbrev pub silent_with : ℕ → ℕ → Decision
 silent_with onsets offsets =
-    record { active = false; probability = zero64; onsets = onsets; offsets = offsets; hold = 0; power = Unset }
+    record { active = false; probability = zero64; onsets = onsets; offsets = offsets; hold = 0; power = None }
 
 abbrev pub no_speech : Decision
 no_speech = silent_with 0 0

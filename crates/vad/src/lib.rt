@@ -2,10 +2,9 @@
 // counts and speech power, and the strand itself, which is level, detector and decision.
 #![tactic(auto)]
 
-ghost use Rattle.std.specs.Prelude.{◌≡◌, ◌<◌};
+ghost use Rattle.std.specs.Prelude.{◌≡◌};
 ghost use Rattle.vad.specs.Hold.{hold_frames};
 ghost use Rattle.vad.specs.Decision.{
-  flag_of,
   heard_of,
   smoothed_of,
   off_of,
@@ -17,7 +16,7 @@ ghost use Rattle.vad.specs.Decision.{
   decide_of,
   full_of,
 };
-ghost use Rattle.vad.specs.State.{tenths_of, hundredths_of, rounded_of, speech_level_of, state_of, power_number, level_number, numbers_of};
+ghost use Rattle.vad.specs.State.{rounded_of, speech_level_of, state_of, numbers_of};
 ghost use Rattle.vad.specs.Strand.{no_speech, fresh_of, finish_of, frame_of, stopped_of, reset_of};
 ghost use Rattle.float.specs.AllFinite.{all_finite};
 
@@ -36,21 +35,8 @@ pub struct VadSettings {
     pub gate_lufs: Lufs,
 }
 
-// The mean power of the frames with speech (1 s time constant); none before the first since a reset.
-#[derive(Clone, Copy)]
-pub enum SpeechPower {
-    Unset,
-    At(f64),
-}
-
-// The same as shown, dBFS.
-#[derive(Clone, Copy)]
-pub enum SpeechLevel {
-    Unset,
-    Dbfs(f64),
-}
-
-// Whether speech is on, the smoothed probability, onsets and offsets so far, the frames left in the hold, and the speech power.
+// Whether speech is on, the smoothed probability, onsets and offsets so far, the frames left in the hold, and the speech power: the mean power of
+// the frames with speech (1 s time constant), none before the first since a reset.
 #[derive(Clone, Copy)]
 pub struct Decision {
     pub active: bool,
@@ -58,15 +44,15 @@ pub struct Decision {
     pub onsets: u64,
     pub offsets: u64,
     pub hold: u32,
-    pub power: SpeechPower,
+    pub power: Option<f64>,
 }
 
-// What is answered of a strand after a frame.
+// What is answered of a strand after a frame; the speech level, dBFS, is the speech power as shown.
 #[derive(Clone, Copy)]
 pub struct VadState {
     pub speech_active: bool,
     pub speech_probability: f64,
-    pub speech_level: SpeechLevel,
+    pub speech_level: Option<f64>,
     pub level_dbfs: f64,
     pub momentary_lufs: Lufs,
     pub gated: bool,
@@ -84,7 +70,8 @@ pub struct Strand {
 }
 
 // The strand after a frame, its loudness, and what is answered. `finite` says that every number that is stored, answered, or handed to the
-// logarithm, a power, the root or the narrowing is finite; `full` that the frame takes the onsets past their limit.
+// logarithm, a power, the root or the narrowing is finite; `full` that the frame takes the onsets past their limit. They are flags beside the values,
+// which are promised whatever they say, since the numbers and the onsets of both strands are tested together.
 #[derive(Clone, Copy)]
 pub struct Framed {
     pub strand: Strand,
@@ -95,6 +82,7 @@ pub struct Framed {
 }
 
 // The frame's probability as the decision hears it: 0 while the signal is below the gate.
+#[tactic(auto, unfolding(crate::specs::Decision::heard_of))]
 fn heard(gated: bool, probability: f64) -> f64
     ensures { result ≡ heard_of gated probability }
 {
@@ -102,6 +90,7 @@ fn heard(gated: bool, probability: f64) -> f64
 }
 
 // The smoothed probability p with a frame's: half of the way up, a fifth of the way down.
+#[tactic(auto, unfolding(crate::specs::Decision::smoothed_of))]
 fn smoothed(p: f64, probability: f64) -> f64
     ensures { result ≡ smoothed_of p probability }
 {
@@ -110,46 +99,35 @@ fn smoothed(p: f64, probability: f64) -> f64
 }
 
 // Speech that turns on at `on` goes off strictly below this.
+#[tactic(auto, unfolding(crate::specs::Decision::off_of))]
 fn off_below(on: f64) -> f64
     ensures { result ≡ off_of on }
 {
     float::max(on - 0.15, 0.05)
 }
 
-// n as u32, which it fits: `hold_frames` shows that.
-fn short(n: u64) -> u32
-    requires { n < 4294967296 }
-    ensures { result ≡ n }
-{
-    n as u32
-}
-
 // The frames of a hold: a tenth of its ms, to the nearest whole number, half upward; none below 0, and at most what a u32 holds.
+#[tactic(auto, unfolding(crate::specs::Hold::hold_frames))]
 pub fn hold_frames(ms: f64) -> u32
     ensures { result ≡ hold_frames ms }
 {
-    let frames = float::round(ms / 10.0);
-    if 0.0 < frames {
-        if frames < 4294967296.0 {
-            return short(std::num::truncating_f64_to_u64(frames));
-        }
-        return 4294967295;
-    }
-    0
+    std::num::saturating_f64_to_u32(float::round(ms / 10.0))
 }
 
 // The mean speech power with a frame's: a hundredth of the way, which is a time constant of 1 s.
-fn mean(old: SpeechPower, power: f64) -> f64
+#[tactic(auto, unfolding(crate::specs::Decision::mean_of))]
+fn mean(old: Option<f64>, power: f64) -> f64
     ensures { result ≡ mean_of old power }
 {
     match old {
-        SpeechPower::At(m) => m + 0.01 * (power - m),
-        SpeechPower::Unset => power,
+        Some(m) => m + 0.01 * (power - m),
+        None => power,
     }
 }
 
 impl Decision {
     // At or above the threshold: speech turns on, or stays on, and the hold is filled.
+    #[tactic(auto, unfolding(crate::specs::Decision::onset_of))]
     fn onset(mut self, frames: u32) -> Decision
         ensures { result ≡ onset_of self frames }
     {
@@ -157,28 +135,27 @@ impl Decision {
         if self.active {
             return self;
         }
-        let n = std::num::wrapping_add_u64(self.onsets, 1);
-        self.onsets = n;
+        self.onsets = self.onsets.wrapping_add(1);
         self.active = true;
         self
     }
 
     // Strictly below the lower threshold while speech is on: the hold counts down, and then speech goes off.
+    #[tactic(auto, unfolding(crate::specs::Decision::offset_of))]
     fn offset(mut self) -> Decision
         ensures { result ≡ offset_of self }
     {
-        let hold = self.hold;
-        if hold == 0 {
-            let n = std::num::wrapping_add_u64(self.offsets, 1);
-            self.offsets = n;
+        if self.hold == 0 {
+            self.offsets = self.offsets.wrapping_add(1);
             self.active = false;
             return self;
         }
-        self.hold = hold - 1;
+        self.hold -= 1;
         self
     }
 
     // Threshold with hysteresis and hold. On is tested before off.
+    #[tactic(auto, unfolding(crate::specs::Decision::switch_of))]
     fn switched(self, on: f64, off: f64, frames: u32) -> Decision
         ensures { result ≡ switch_of self on off frames }
     {
@@ -194,25 +171,21 @@ impl Decision {
     }
 
     // The speech power with a frame's level, dBFS, while speech is on.
+    #[tactic(auto, unfolding(crate::specs::Decision::voiced_of))]
     fn voiced(self, dbfs: f64) -> Decision
         ensures { result ≡ voiced_of self dbfs }
     {
         if self.active {
-            let old = self.power;
-            let m = mean(old, power::exp10(dbfs / 10.0));
             return Decision {
-                active: self.active,
-                probability: self.probability,
-                onsets: self.onsets,
-                offsets: self.offsets,
-                hold: self.hold,
-                power: SpeechPower::At(m),
+                power: Some(mean(self.power, power::exp10(dbfs / 10.0))),
+                ..self
             };
         }
         self
     }
 
     // The decision with a frame: its probability as heard, and its level, dBFS.
+    #[tactic(auto, unfolding(crate::specs::Decision::decide_of))]
     pub fn decide(mut self, probability: f64, dbfs: f64, settings: VadSettings) -> Decision
         ensures { result ≡ decide_of self probability dbfs settings }
     {
@@ -223,91 +196,51 @@ impl Decision {
     }
 
     // Whether an onset that leads to `next` takes the onsets past their limit.
+    #[tactic(auto, unfolding(crate::specs::Decision::full_of))]
     fn full(self, next: Decision) -> bool
         ensures { result ≡ full_of self next }
     {
-        if self.active {
-            return false;
-        }
-        if next.active {
-            return self.onsets >= ONSET_LIMIT;
-        }
-        false
+        !self.active && next.active && self.onsets >= ONSET_LIMIT
     }
 }
 
-// To a tenth.
-fn tenths(x: f64) -> f64
-    ensures { result ≡ tenths_of x }
-{
-    float::round(x * 10.0) / 10.0
-}
-
-// To a hundredth.
-fn hundredths(x: f64) -> f64
-    ensures { result ≡ hundredths_of x }
-{
-    float::round(x * 100.0) / 100.0
-}
-
 // The features as shown.
+#[tactic(auto, unfolding(crate::specs::State::rounded_of, crate::specs::State::hundredths_of))]
 fn rounded(f: Features) -> Features
     ensures { result ≡ rounded_of f }
 {
     Features {
-        over_floor_db: hundredths(f.over_floor_db),
-        modulation_db: hundredths(f.modulation_db),
-        voicing: hundredths(f.voicing),
-        anti: hundredths(f.anti),
+        over_floor_db: float::round_to(f.over_floor_db, 100.0),
+        modulation_db: float::round_to(f.modulation_db, 100.0),
+        voicing: float::round_to(f.voicing, 100.0),
+        anti: float::round_to(f.anti, 100.0),
     }
 }
 
 // The speech level from the stored speech power, whether speech is on or off.
-fn speech_level(p: SpeechPower) -> SpeechLevel
+#[tactic(auto, unfolding(crate::specs::State::speech_level_of, crate::specs::State::tenths_of))]
+fn speech_level(p: Option<f64>) -> Option<f64>
     ensures { result ≡ speech_level_of p }
 {
-    match p {
-        SpeechPower::At(m) => SpeechLevel::Dbfs(tenths(detector::db(m))),
-        SpeechPower::Unset => SpeechLevel::Unset,
-    }
+    p.map(|m| float::round_to(detector::db(m), 10.0))
 }
 
 // What is answered, with the decision d after the frame.
+#[tactic(auto, unfolding(crate::specs::State::state_of, crate::specs::State::tenths_of))]
 fn state(d: Decision, gated: bool, frame: Frame, reading: Reading) -> VadState
     ensures { result ≡ state_of d gated frame reading }
 {
-    let power = d.power;
     VadState {
         speech_active: d.active,
         speech_probability: d.probability,
-        speech_level: speech_level(power),
+        speech_level: speech_level(d.power),
         level_dbfs: frame.level_dbfs,
-        momentary_lufs: Lufs(tenths(reading.momentary.0)),
+        momentary_lufs: Lufs(float::round_to(reading.momentary.0, 10.0)),
         gated,
-        short_term_lufs: Lufs(tenths(reading.short_term.0)),
+        short_term_lufs: Lufs(float::round_to(reading.short_term.0, 10.0)),
         speech_onsets: d.onsets,
         speech_offsets: d.offsets,
         features: rounded(frame.features),
-    }
-}
-
-// The number of a speech power, 0 for none.
-fn power_number(p: SpeechPower) -> f64
-    ensures { result ≡ power_number p }
-{
-    match p {
-        SpeechPower::At(m) => m,
-        SpeechPower::Unset => 0.0,
-    }
-}
-
-// The number of a speech level, 0 for none.
-fn level_number(l: SpeechLevel) -> f64
-    ensures { result ≡ level_number l }
-{
-    match l {
-        SpeechLevel::Dbfs(x) => x,
-        SpeechLevel::Unset => 0.0,
     }
 }
 
@@ -315,14 +248,12 @@ fn level_number(l: SpeechLevel) -> f64
 fn numbers_finite(d: Decision, s: VadState) -> bool
     ensures { result ≡ all_finite (numbers_of d s) }
 {
-    let power = d.power;
-    let level = s.speech_level;
     let f = s.features;
     let numbers = [
         d.probability,
-        power_number(power),
+        d.power.unwrap_or(0.0),
         float::pick(d.active, s.level_dbfs / 10.0, 0.0),
-        level_number(level),
+        s.speech_level.unwrap_or(0.0),
         s.level_dbfs,
         s.momentary_lufs.0,
         s.short_term_lufs.0,
@@ -343,20 +274,16 @@ pub fn finish(d: Decision, l: level::Framed, h: Heard, settings: VadSettings) ->
     let gated = reading.momentary.0 < settings.gate_lufs.0;
     let decision = d.decide(heard(gated, frame.probability), frame.level_dbfs, settings);
     let shown = state(decision, gated, frame, reading);
-    let finite = l.finite & h.finite & numbers_finite(decision, shown);
-    let full = d.full(decision);
-    let level = l.level;
-    let detector = h.detector;
     Framed {
         strand: Strand {
-            level,
-            detector,
+            level: l.level,
+            detector: h.detector,
             decision,
         },
         reading,
         state: shown,
-        finite,
-        full,
+        finite: l.finite & h.finite & numbers_finite(decision, shown),
+        full: d.full(decision),
     }
 }
 
@@ -371,31 +298,21 @@ impl Decision {
             onsets: 0,
             offsets: 0,
             hold: 0,
-            power: SpeechPower::Unset,
+            power: None,
         }
     }
 
     // Speech that was active ends; the counts stay, and the rest is new.
+    #[tactic(auto, unfolding(crate::specs::Strand::stopped_of))]
     pub fn stopped(self) -> Decision
         ensures { result ≡ stopped_of self }
     {
-        let n = std::num::wrapping_add_u64(self.offsets, flag(self.active));
         Decision {
-            active: false,
-            probability: 0.0,
             onsets: self.onsets,
-            offsets: n,
-            hold: 0,
-            power: SpeechPower::Unset,
+            offsets: self.offsets.wrapping_add(u64::from(self.active)),
+            ..Decision::new()
         }
     }
-}
-
-// 1 for true, 0 for false.
-fn flag(b: bool) -> u64
-    ensures { result ≡ flag_of b }
-{
-    if b { 1 } else { 0 }
 }
 
 impl Strand {
@@ -411,6 +328,7 @@ impl Strand {
     }
 
     // One frame: level, detector, then the decision.
+    #[tactic(auto, unfolding(crate::specs::Strand::frame_of))]
     pub fn frame(self, xs: &[f32], settings: VadSettings) -> Framed
         ensures { result ≡ frame_of self xs.now settings }
     {
@@ -423,6 +341,7 @@ impl Strand {
     }
 
     // A new strand with the counts of this one; speech that was active counts as ended.
+    #[tactic(auto, unfolding(crate::specs::Strand::reset_of))]
     pub fn reset(self) -> Strand
         ensures { result ≡ reset_of self }
     {

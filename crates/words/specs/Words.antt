@@ -1,5 +1,5 @@
 -- An answer as 41 words of 64 bits, settings from 12, and a layout from its count and 24. A float is its bits, a flag 0 or 1, an absent value 0. Definitions only.
-use Rattle.std.specs.Prelude.{ℕ, ◌+◌, Bool, not, List, [], ◌∷◌, ◌++◌, eqb, get_or, Float}
+use Rattle.std.specs.Prelude.{ℕ, ◌+◌, Bool, not, List, [], ◌∷◌, ◌++◌, eqb, get_or, Float, is_some, unwrap_or}
 use Rattle.std.specs.Float.{binary64}
 use Rattle.std.specs.Float.Ieee.{to_bits, of_bits}
 use Rattle.float.specs.declared.Db.{Db}
@@ -11,8 +11,6 @@ use Rattle.comis.specs.Shown.{shown_flag, shown_value}
 use Rattle.comis.specs.MixState.{state_number}
 use Rattle.ratio.specs.declared.Duck.{Duck}
 use Rattle.ratio.specs.declared.RatioStatus.{RatioStatus}
-use Rattle.vad.specs.declared.SpeechLevel.{SpeechLevel}
-use Rattle.vad.specs.declared.SpeechLevel.TheVariants.{Unset, Dbfs}
 use Rattle.vad.specs.declared.VadSettings.{VadSettings}
 use Rattle.vad.specs.declared.VadState.{VadState}
 use Rattle.chain.specs.declared.Answer.{Answer}
@@ -41,22 +39,14 @@ status_words r s =
     ∷ bits (shown_value s.bed_lufs)
     ∷ []
 
-abbrev pub speech_flag : SpeechLevel → ℕ
-speech_flag Unset = 0
-speech_flag (Dbfs x) = 1
-
-abbrev pub speech_value : SpeechLevel → Float
-speech_value Unset = zero64
-speech_value (Dbfs x) = x
-
 -- 14 words: active, probability, speech level as flag and value, level, momentary, gated, short-term, onsets, offsets, over floor,
 -- modulation, voicing, anti
 unfoldable pub strand_words : VadState → List ℕ
 strand_words s =
     flag_bits s.speech_active
     ∷ bits s.speech_probability
-    ∷ speech_flag s.speech_level
-    ∷ bits (speech_value s.speech_level)
+    ∷ flag_bits (is_some s.speech_level)
+    ∷ bits (unwrap_or s.speech_level zero64)
     ∷ bits s.level_dbfs
     ∷ bits s.momentary_lufs.0
     ∷ flag_bits s.gated

@@ -6,8 +6,6 @@ ghost use Rattle.std.specs.Prelude.{◌≡◌, ◌+◌, ◌≤◌, length};
 ghost use Rattle.blocks.specs.Lists.{Laid};
 ghost use Rattle.words.specs.Words.{
   status_words,
-  speech_flag,
-  speech_value,
   strand_words,
   answer_words,
   strand_from,
@@ -18,74 +16,51 @@ ghost use Rattle.words.specs.Words.{
 };
 
 use chain::Answer;
-use codec::flag_bits;
 use float::{Db, Lufs};
 use layout::{Layout, Place};
 use ratio::{Duck, RatioStatus};
 use settings::Settings;
-use vad::{SpeechLevel, VadSettings, VadState};
+use vad::{VadSettings, VadState};
 
 // State (0 release, 1 duck, 2 interview, 3 overvoice), the unrounded reduction, reduction_db, slow_db, mid_db, fast_db, target_lu; ratio_lu,
 // dialogue_lufs and bed_lufs, each as flag and value.
+#[tactic(auto, unfolding(crate::specs::Words::status_words))]
 pub fn status(reduction: Db, s: RatioStatus) -> [u64; 13]
     ensures { result ≡ status_words reduction s }
 {
-    let state = s.state;
-    let ratio_lu = s.ratio_lu;
-    let dialogue_lufs = s.dialogue_lufs;
-    let bed_lufs = s.bed_lufs;
     [
-        state.number(),
+        s.state.number(),
         float::to_bits(reduction.0),
         float::to_bits(s.reduction_db.0),
         float::to_bits(s.slow_db.0),
         float::to_bits(s.mid_db.0),
         float::to_bits(s.fast_db.0),
         float::to_bits(s.target_lu),
-        ratio_lu.flag(),
-        float::to_bits(ratio_lu.value()),
-        dialogue_lufs.flag(),
-        float::to_bits(dialogue_lufs.value()),
-        bed_lufs.flag(),
-        float::to_bits(bed_lufs.value()),
+        s.ratio_lu.flag(),
+        float::to_bits(s.ratio_lu.value()),
+        s.dialogue_lufs.flag(),
+        float::to_bits(s.dialogue_lufs.value()),
+        s.bed_lufs.flag(),
+        float::to_bits(s.bed_lufs.value()),
     ]
-}
-
-// 1 where there is a speech level, else 0.
-fn speech_flag(l: SpeechLevel) -> u64
-    ensures { result ≡ speech_flag l }
-{
-    match l {
-        SpeechLevel::Unset => 0,
-        SpeechLevel::Dbfs(_) => 1,
-    }
-}
-
-// The speech level, dBFS, or 0.
-fn speech_value(l: SpeechLevel) -> f64
-    ensures { result ≡ speech_value l }
-{
-    match l {
-        SpeechLevel::Unset => 0.0,
-        SpeechLevel::Dbfs(x) => x,
-    }
 }
 
 // Active, probability, speech_level as flag and value, level_dbfs, momentary_lufs, gated, short_term_lufs, onsets, offsets, over_floor_db,
 // modulation_db, voicing, anti.
+#[tactic(auto, unfolding(crate::specs::Words::strand_words))]
 pub fn strand(s: VadState) -> [u64; 14]
     ensures { result ≡ strand_words s }
 {
     let level = s.speech_level;
     let f = s.features;
     [
-        flag_bits(s.speech_active),
+        u64::from(s.speech_active),
         float::to_bits(s.speech_probability),
-        speech_flag(level),
-        float::to_bits(speech_value(level)),
+        u64::from(level.is_some()),
+        float::to_bits(level.unwrap_or(0.0)),
         float::to_bits(s.level_dbfs),
         float::to_bits(s.momentary_lufs.0),
-        flag_bits(s.gated),
+        u64::from(s.gated),
         float::to_bits(s.short_term_lufs.0),
         s.speech_onsets,
         s.speech_offsets,
@@ -101,11 +76,7 @@ fn lay(to: &mut [u64], at: usize, words: &[u64])
     requires { at + length words.now ≤ length to.old }
     ensures { Laid to.old at words.now to.new }
 {
-    let mut k: usize = 0;
-    while k < words.len() {
-        to[at + k] = words[k];
-        k += 1;
-    }
+    to[at..at + words.len()].copy_from_slice(words);
 }
 
 // The status, the key's words, the bed's.
@@ -120,6 +91,7 @@ pub fn answer(a: Answer) -> [u64; 41]
 }
 
 // A strand's settings from their three words.
+#[tactic(auto, unfolding(crate::specs::Words::strand_from))]
 pub fn strand_settings(threshold: u64, hold_ms: u64, gate_lufs: u64) -> VadSettings
     ensures { result ≡ strand_from threshold hold_ms gate_lufs }
 {
@@ -130,6 +102,7 @@ pub fn strand_settings(threshold: u64, hold_ms: u64, gate_lufs: u64) -> VadSetti
     }
 }
 
+#[tactic(auto, unfolding(crate::specs::Words::duck_from))]
 fn duck(w: &[u64; 12]) -> Duck
     ensures { result ≡ duck_from w.now }
 {
@@ -144,6 +117,7 @@ fn duck(w: &[u64; 12]) -> Duck
 }
 
 // All settings from their words, in the image's order. A flag (w[6], enabled, and w[11], bed_voice) is on where its word isn't 0.
+#[tactic(auto, unfolding(crate::specs::Words::settings_from))]
 pub fn settings(w: &[u64; 12]) -> Settings
     ensures { result ≡ settings_from w.now }
 {
@@ -155,6 +129,7 @@ pub fn settings(w: &[u64; 12]) -> Settings
 }
 
 // A place from its three words. `layout` shows that they are there.
+#[tactic(auto, unfolding(crate::specs::Words::place_from))]
 fn place(w: &[u64; 24], at: usize) -> Place
     requires { at ≤ 21 }
     ensures { result ≡ place_from w.now at }
@@ -166,7 +141,9 @@ fn place(w: &[u64; 24], at: usize) -> Place
     }
 }
 
-// A layout from the number of its channels and eight times three words: azimuth, elevation, LFE flag.
+// A layout from the number of its channels and eight times three words: azimuth, elevation, LFE flag. The places stand in a row, since `array::from_fn`
+// says only that calls of its closure gave them.
+#[tactic(auto, unfolding(crate::specs::Words::layout_from))]
 pub fn layout(count: u64, w: &[u64; 24]) -> Layout
     ensures { result ≡ layout_from count w.now }
 {

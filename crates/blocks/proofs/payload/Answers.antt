@@ -8,29 +8,24 @@ use Rattle.blocks.proofs.payload.Goals as goal
 
 pub loop-block-init : goal.loop-block-init
 loop-block-init c =
-    let e : min c.least-n.result (checked_words * 0) ≡ 0 = omega arith in
-    (omega arith, (rw e (none_yet _ _)))
+    let e : min c.min-n.result (checked_words * 0) ≡ 0 = omega arith in
+    rw e (none_yet _ _)
 
 pub block_payload-requires : goal.block_payload-requires
-block_payload-requires c = (omega arith, omega arith, omega (arith, laid-length c.loop-block.invariant.1))
-
-pub loop-block-smaller : goal.loop-block-smaller
-loop-block-smaller c = omega arith
+block_payload-requires c = (omega arith, omega arith, omega (arith, laid-length c.loop-block.invariant))
 
 pub loop-block-preserved : goal.loop-block-preserved
 loop-block-preserved c =
     let b = c.args.b.now in
     let at = c.loop-block in
-    let n = c.least-n.result in
-    let e : min n (checked_words * at.block) ≡ checked_words * at.block = omega arith in (
-      omega arith,
-      payload-next (payload_of b) c.least.result (min n (checked_words * (at.block + 1))) (rw e at at.invariant.1) (omega (arith, payload-length b)) (omega arith) c.block_payload.ensures,
-    )
+    let n = c.min-n.result in
+    let e : min n (checked_words * at.block) ≡ checked_words * at.block = omega arith in
+    payload-next (payload_of b) c.min.result (min n (checked_words * (at.block + 1))) (rw e at at.invariant) (omega (arith, payload-length b)) (omega arith) c.block_payload.ensures
 
 pub shape_of-w : goal.shape_of-w
-shape_of-w c = laid-length c.loop-block.invariant.1
+shape_of-w c = laid-length c.loop-block.invariant
 
 pub returns : goal.returns
 returns c =
     let b = c.args.b.now in
-    finish-first {k = min c.least-n.result (checked_words * c.loop-block.block)} (payload_of b) c.loop-block.invariant.1 (omega (arith, payload-length b))
+    finish-first {k = min c.min-n.result (checked_words * c.loop-block.block)} (payload_of b) c.loop-block.invariant (omega (arith, payload-length b))

@@ -5,7 +5,7 @@ use Rattle.blocks.proofs.Images.{wrote_none, wrote-all, writing_none, writing_ne
 use Rattle.blocks.proofs.write_image.Goals as goal
 
 pub loop-block-init : goal.loop-block-init
-loop-block-init c = (omega arith, wrote_none _ _)
+loop-block-init c = wrote_none _ _
 
 pub loop-j-init : goal.loop-j-init
 loop-j-init c = writing_none _ _ _
@@ -18,10 +18,10 @@ loop-j-preserved c =
 
 pub loop-block-preserved : goal.loop-block-preserved
 loop-block-preserved c =
-    (omega arith, writing_all c.loop-j.invariant c.loop-j-test.false c.loop-block.invariant.1 c.write8-in-loop-block.ensures)
+    writing_all c.loop-j.invariant c.loop-j-test.false c.loop-block.invariant c.write8-in-loop-block.ensures
 
 pub shape_of-b : goal.shape_of-b
-shape_of-b c = laid-length c.loop-block.invariant.1.over
+shape_of-b c = laid-length c.loop-block.invariant.over
 
 pub returns : goal.returns
-returns c = wrote-all c.loop-block.invariant.1 (omega arith)
+returns c = wrote-all c.loop-block.invariant (omega arith)

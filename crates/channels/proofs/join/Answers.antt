@@ -1,37 +1,27 @@
--- `join` meets its contract. The loop's invariant: the channels that are left, from the sums so far, come to the same.
-use native.Mathlib.Omega.{arith}
-use mathlib.Core.Path.{◌≡◌, refl, sym, ◌∙◌}
-use lib.ListN.{take, get_or, length-take}
-use lib.Ieee.{nan}
-use lib.Seq.{get_or-take}
-use Rattle.level.specs.Level.{joined_of}
-use Rattle.sequence.proofs.Sized.{unmapped}
-use Rattle.channels.specs.Runs.{past_weighing}
-use Rattle.channels.proofs.Sums.{join-turn, join-end}
-use borrow.Author.Rules.{rules}
+-- `join` meets its contract.
+use mathlib.Core.Path.{ap, sym, ◌∙◌}
+use Rattle.std.proofs.Common.{inl, inr}
+use Rattle.level.specs.declared.Joint.{Joint}
+use Rattle.channels.specs.Channels.{join_all}
+use Rattle.channels.proofs.Sums.{no-weights, no-weighings}
 use Rattle.channels.proofs.join.Goals as goal
 
-pub loop-i-init : goal.loop-i-init
-loop-i-init c = (search rules, search (rules, unmapped), search rules, omega arith, refl)
-
-pub loop-i-preserved : goal.loop-i-preserved
-loop-i-preserved c =
-    let l = c.loop-i in
-    let a = c.args in
-    let same : joined_of l.j (get_or (take a.n a.weights) l.i nan) (get_or (take a.n a.ws) l.i past_weighing) 480 ≡ joined_of l.j (get_or a.weights l.i nan) (get_or a.ws l.i past_weighing) 480 =
-    λ i. joined_of l.j (get_or-take a.n a.weights l.i nan (omega arith) i) (get_or-take a.n a.ws l.i past_weighing (omega arith) i) 480 in (
-      l.invariant.0,
-      l.invariant.1,
-      l.invariant.2,
-      omega arith,
-      join-turn past_weighing l.j c.join-j.result (take a.n a.weights) (take a.n a.ws) l.i (c.join-j.ensures ∙ sym same)
-          (omega (arith, length-take a.n a.weights))
-          (omega (arith, length-take a.n a.ws))
-          ∙ l.invariant.4,
-    )
+pub loop-weight-preserved : goal.loop-weight-preserved
+unfolding join_all
+loop-weight-preserved c =
+    let l = c.loop-weight in
+    let left = c.next.new.self in
+    let s = c.in-Some.ensures.steps in
+    ap (λ (j : Joint). join_all j left.a.rest.now left.b.rest.now) c.join-j.ensures
+    ∙ sym (λ i. join_all l.j (s.0 i) (s.1 i))
+    ∙ l.invariant
 
 pub returns : goal.returns
 returns c =
-    let l = c.loop-i in
-    let a = c.args in
-    join-end l.j (take a.n a.weights) (take a.n a.ws) l.i (omega (arith, length-take a.n a.weights, length-take a.n a.ws)) ∙ l.invariant.4
+    let l = c.loop-weight in
+    let bs = l.weight-iterator.a.rest.now in
+    let ws = l.weight-iterator.b.rest.now in
+    elim c.in-None.ensures.steps [
+      | inl s ↦ no-weights l.j bs ws s.1.0 ∙ l.invariant
+      | inr s ↦ no-weighings l.j bs ws s.1.0 ∙ l.invariant
+    ]

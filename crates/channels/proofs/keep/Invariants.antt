@@ -1,5 +1,4 @@
--- `keep` meets its contract. The loop's invariant: the first i places are filled.
-use Prim.Native.Nat.{◌-◌, ◌≤◌, min}
+-- The first i places are filled.
 use mathlib.Core.Path.{◌≡◌}
 use mathlib.Core.List.{map}
 use lib.ListN.{length, take}
@@ -8,7 +7,4 @@ use Rattle.channels.specs.Channels.{kept_of}
 use Rattle.channels.proofs.keep.Given as goal
 
 abbrev pub invariant-loop-i : goal.invariant-loop-i
-invariant-loop-i l = (length l.ws ≡ 8) × (length l.initial.v ≡ 8) × (l.m ≡ min l.n 8) × (l.i ≤ l.m) × (l.v ≡ laid (map kept_of (take l.i (take l.n l.ws))) l.initial.v)
-
-abbrev pub decreases-loop-i : goal.decreases-loop-i
-decreases-loop-i l = l.m - l.i
+invariant-loop-i l = (length l.initial.v ≡ 8) × (length l.v ≡ 8) × (l.v ≡ laid (map kept_of (take l.i l.ws)) l.initial.v)

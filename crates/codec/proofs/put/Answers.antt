@@ -1,10 +1,6 @@
 -- `codec::put` meets its contract.
-use mathlib.Core.Path.{refl}
-use Rattle.blocks.proofs.Lists.{dropped, stored}
+use Rattle.codec.proofs.Places.{put_one}
 use Rattle.codec.proofs.put.Goals as goal
 
-pub returns-then-w-at : goal.returns-then-w-at
-returns-then-w-at c = dropped _ _ _ c.if-w-at.true
-
 pub returns : goal.returns
-returns c = stored refl
+returns g c = put_one _ c.store.ensures c.to_word.ensures

@@ -20,10 +20,10 @@ returns c =
     let p4 : i + 4 ≡ i + 1 + 1 + 1 + 1 = omega arith in
     let p5 : i + 5 ≡ i + 1 + 1 + 1 + 1 + 1 = omega arith in
     λ k. record {
-      enabled = c.get_flag-enabled.ensures k;
-      target_lu = c.get64-target_lu.ensures k;
-      overvoice_lu = (c.get64-overvoice_lu.ensures ∙ ap (λ (n : ℕ). num_of binary64 (get_or l n 0)) p2) k;
-      max_reduction_db = db ((c.get64-max_reduction_db.ensures ∙ ap (λ (n : ℕ). num_of binary64 (get_or l n 0)) p3) k);
-      speed = (c.get64-speed.ensures ∙ ap (λ (n : ℕ). num_of binary64 (get_or l n 0)) p4) k;
-      bed_voice = (c.get_flag-bed_voice.ensures ∙ ap (λ (n : ℕ). eqb (get_or l n 0) 1) p5) k;
+      enabled = c.get-enabled.ensures k;
+      target_lu = c.get-target_lu.ensures k;
+      overvoice_lu = (c.get-overvoice_lu.ensures ∙ ap (λ (n : ℕ). num_of binary64 (get_or l n 0)) p2) k;
+      max_reduction_db = db ((c.get-max_reduction_db.ensures ∙ ap (λ (n : ℕ). num_of binary64 (get_or l n 0)) p3) k);
+      speed = (c.get-speed.ensures ∙ ap (λ (n : ℕ). num_of binary64 (get_or l n 0)) p4) k;
+      bed_voice = (c.get-bed_voice.ensures ∙ ap (λ (n : ℕ). eqb (get_or l n 0) 1) p5) k;
     }

@@ -17,8 +17,8 @@ returns c =
     let p2 : i + 2 ≡ i + 1 + 1 = omega arith in
     let p3 : i + 3 ≡ i + 1 + 1 + 1 = omega arith in
     λ k. record {
-      slow = db (c.get64-slow.ensures k);
-      mid = db (c.get64-mid.ensures k);
-      fast = db ((c.get64-fast.ensures ∙ ap (λ (n : ℕ). num_of binary64 (get_or l n 0)) p2) k);
-      hold_remaining_seconds = (c.get64-hold_remaining_seconds.ensures ∙ ap (λ (n : ℕ). num_of binary64 (get_or l n 0)) p3) k;
+      slow = db (c.get-slow.ensures k);
+      mid = db (c.get-mid.ensures k);
+      fast = db ((c.get-fast.ensures ∙ ap (λ (n : ℕ). num_of binary64 (get_or l n 0)) p2) k);
+      hold_remaining_seconds = (c.get-hold_remaining_seconds.ensures ∙ ap (λ (n : ℕ). num_of binary64 (get_or l n 0)) p3) k;
     }

@@ -15,7 +15,7 @@ returns c =
     let i = c.args.at in
     let p2 : i + 2 ≡ i + 1 + 1 = omega arith in
     λ k. record {
-      threshold = c.get64-threshold.ensures k;
-      hold_ms = c.get64-hold_ms.ensures k;
-      gate_lufs = record { 0 = (c.get64-gate_lufs.ensures ∙ ap (λ (n : ℕ). num_of binary64 (get_or l n 0)) p2) k };
+      threshold = c.get-threshold.ensures k;
+      hold_ms = c.get-hold_ms.ensures k;
+      gate_lufs = record { 0 = (c.get-gate_lufs.ensures ∙ ap (λ (n : ℕ). num_of binary64 (get_or l n 0)) p2) k };
     }

@@ -7,9 +7,9 @@ use Rattle.image.proofs.put_duck.Goals as goal
 pub returns : goal.returns
 unfolding duck
 returns c =
-    then (single c.put_flag.ensures) (omega arith)
-    (then (single c.put64.ensures) (omega arith)
-    (then (single c.put64-2.ensures) (omega arith)
-    (then (single c.put64-3.ensures) (omega arith)
-    (then (single c.put64-4.ensures) (omega arith)
-    (single c.put_flag-2.ensures)))))
+    then (single c.put.ensures) (omega arith)
+    (then (single c.put-2.ensures) (omega arith)
+    (then (single c.put-3.ensures) (omega arith)
+    (then (single c.put-4.ensures) (omega arith)
+    (then (single c.put-5.ensures) (omega arith)
+    (single c.put-6.ensures)))))

@@ -7,7 +7,7 @@ use Rattle.image.proofs.put_loops.Goals as goal
 pub returns : goal.returns
 unfolding loops
 returns c =
-    then (single c.put64.ensures) (omega arith)
-    (then (single c.put64-2.ensures) (omega arith)
-    (then (single c.put64-3.ensures) (omega arith)
-    (single c.put64-4.ensures)))
+    then (single c.put.ensures) (omega arith)
+    (then (single c.put-2.ensures) (omega arith)
+    (then (single c.put-3.ensures) (omega arith)
+    (single c.put-4.ensures)))

@@ -7,6 +7,6 @@ use Rattle.image.proofs.put_strand_settings.Goals as goal
 pub returns : goal.returns
 unfolding strand_settings
 returns c =
-    then (single c.put64.ensures) (omega arith)
-    (then (single c.put64-2.ensures) (omega arith)
-    (single c.put64-3.ensures))
+    then (single c.put.ensures) (omega arith)
+    (then (single c.put-2.ensures) (omega arith)
+    (single c.put-3.ensures))

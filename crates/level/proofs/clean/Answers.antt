@@ -7,4 +7,4 @@ use Rattle.level.proofs.clean.Goals as goal
 
 pub float_to_float-result : goal.float_to_float-result
 float_to_float-result c =
-    widens c.args.v (told (finite c.args.v) (sym c.finite32.ensures ∙ c.if-finite32.true)) (subst T (sym c.well_formed.0.1) tt)
+    widens c.args.v (told (finite c.args.v) (sym c.finite.ensures ∙ c.if-finite.true)) (subst T (sym c.well_formed.0.1) tt)

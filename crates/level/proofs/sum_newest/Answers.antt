@@ -1,25 +1,19 @@
--- `level::sum_newest` meets its contract. The loop's invariant: the values below place c, down to the oldest that counts, newest first, added to the sum,
--- come to the same.
-use Rattle.std.proofs.Common.{◌-◌, ◌∙◌, arith}
-use Rattle.level.proofs.Sum.{sum-begin, sum-turn, sum-enough}
+-- `level::sum_newest` meets its contract: the newest first are the latest, reversed.
+use Rattle.std.proofs.Common.{◌≡◌, ◌-◌, length, drop, reverse, sym, ap, ◌∙◌, arith}
+use Rattle.std.proofs.lemmas.Grind.{common_steps}
+use Rattle.std.specs.List.{fold}
+use mathlib.Core.List.{foldl}
+use Rattle.sequence.specs.History.{latest}
+use Rattle.sequence.proofs.Fold.{fold_is}
+use Rattle.sequence.proofs.Newest.{newest-latest}
+use Rattle.float.specs.Arithmetic.{◌⊕◌}
+use Rattle.level.specs.Level.{sum_of}
 use Rattle.level.proofs.sum_newest.Goals as goal
 
-pub loop-c-init : goal.loop-c-init
-loop-c-init c =
-    let a = c.args in (
-      omega arith,
-      omega arith,
-      rw (c.least.ensures, c.least-c.ensures) (sum-begin a.from a.v.now a.n a.count),
-    )
-
-pub loop-c-preserved : goal.loop-c-preserved
-loop-c-preserved c =
-    let l = c.loop-c in
-    let v = c.args.v.now in
-    (omega arith, omega arith, sum-turn l.sum v (c.least-c.result - c.least.result) l.c (omega arith) (omega arith) ∙ l.invariant.2)
-
 pub returns : goal.returns
+unfolding sum_of latest
 returns c =
-    let l = c.loop-c in
-    let v = c.args.v.now in
-    sum-enough l.sum v (c.least-c.result - c.least.result) l.c (omega arith) ∙ l.invariant.2
+    let a = c.args in
+    let xs = a.xs.now in
+    let e : c.fold.result ≡ fold ◌⊕◌ a.from (reverse (drop (length xs - a.n) xs)) = grind (arith, common_steps) in
+    e ∙ fold_is ◌⊕◌ a.from (reverse (latest a.n xs)) ∙ ap (foldl ◌⊕◌ a.from) (sym (newest-latest a.n xs))

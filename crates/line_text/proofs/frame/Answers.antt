@@ -18,20 +18,20 @@ put_number-end-requires c = omega (arith, decimal-end _ _ _ _ _ c.put_number-mid
 pub put-requires : goal.put-requires
 put-requires c = omega (arith, decimal-end _ _ _ _ _ c.put_number-middle.ensures, bytes-end _ _ _ _ _ c.put-code.ensures, decimal-end _ _ _ _ _ c.put_number-end.ensures, c.ranges.at)
 
-pub returns-in-Passed : goal.returns-in-Passed
+pub returns-in-Ok : goal.returns-in-Ok
 unfolding line_of
-returns-in-Passed c =
+returns-in-Ok c =
     let a = c.args in
-    (put_as (ap (line_of a.number) (sym c.in-Passed.is)) (put_then (promised _ _ _ _ _ c.put_number-middle.ensures) (promised _ _ _ _ _ c.put_answer.ensures))).is
+    (put_as (ap (line_of a.number) (sym c.in-Ok.is)) (put_then (promised _ _ _ _ _ c.put_number-middle.ensures) (promised _ _ _ _ _ c.put_answer.ensures))).is
 
-pub returns-in-Refused : goal.returns-in-Refused
+pub returns-in-Err : goal.returns-in-Err
 unfolding line_of
-returns-in-Refused c =
+returns-in-Err c =
     let a = c.args in
     (put_as
     (ap (λ (k : ℕ). decimal a.number ++ ascii " refused " ++ decimal k ++ ascii "\n") c.number.ensures
     ∙ refused-joined (decimal a.number) _
-    ∙ ap (line_of a.number) (sym c.in-Refused.is))
+    ∙ ap (line_of a.number) (sym c.in-Err.is))
     (put_then
     (put_then (put_then (promised _ _ _ _ _ c.put_number-middle.ensures) (promised _ _ _ _ _ c.put-code.ensures)) (promised _ _ _ _ _ c.put_number-end.ensures))
     (promised _ _ _ _ _ c.put.ensures))).is

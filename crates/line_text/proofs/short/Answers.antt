@@ -7,9 +7,9 @@ use Rattle.line_text.proofs.Parts.{short-joined, decimal-end, bytes-end}
 use Rattle.line_text.proofs.Putting.{promised, put-laid, put_as, put_then}
 use Rattle.line_text.proofs.short.Goals as goal
 
-pub returns-then-left-eq0 : goal.returns-then-left-eq0
+pub returns-then-left-eq0-clause-line : goal.returns-then-left-eq0-clause-line
 unfolding short_line
-returns-then-left-eq0 c =
+returns-then-left-eq0-clause-line c =
     let a = c.args in
     (put_as
     {end = 0}
@@ -22,9 +22,13 @@ put_number-end-requires c = omega (arith, bytes-end _ _ _ _ _ c.put-number.ensur
 pub put-requires : goal.put-requires
 put-requires c = omega (arith, bytes-end _ _ _ _ _ c.put-number.ensures, decimal-end _ _ _ _ _ c.put_number-end.ensures)
 
-pub returns : goal.returns
+pub returns-clause-room : goal.returns-clause-room
+returns-clause-room c =
+    omega (arith, bytes-end _ _ _ _ _ c.put-number.ensures, decimal-end _ _ _ _ _ c.put_number-end.ensures, bytes-end _ _ _ _ _ c.put.ensures)
+
+pub returns-clause-line : goal.returns-clause-line
 unfolding short_line
-returns c =
+returns-clause-line c =
     let a = c.args in
     (put_as
     (short-joined (decimal a.left) ∙ ap (λ (b : Bool). cond b [] (line (ascii "short" ∷ decimal a.left ∷ []))) (sym (ne_eqb a.left 0 c.if-left-eq0.false)))

@@ -26,12 +26,12 @@ returns-then-n-ge-LEAST c =
     let z = minus-high n least c.if-n-ge-LEAST.true in
     divided steps (n - least) (minus n least) _ (omega arith) (ap (λ s. fin (negative s) 1 (pos steps)) (sym z)) (ap nat_abs z)
 
-pub int_to_float-result-2 : goal.int_to_float-result-2
-int_to_float-result-2 c = in_float_lem (least - c.args.n) (omega arith)
+pub int_to_float-result-else-n-ge-LEAST : goal.int_to_float-result-else-n-ge-LEAST
+int_to_float-result-else-n-ge-LEAST c = in_float_lem (least - c.args.n) (omega arith)
 
-pub returns : goal.returns
+pub returns-else-n-ge-LEAST : goal.returns-else-n-ge-LEAST
 unfolding of_bits neg
-returns c =
+returns-else-n-ge-LEAST c =
     let n = c.args.n in
     let z = minus-low n least c.if-n-ge-LEAST.false in
     divided steps (least - n) (minus n least) _ (omega arith) (ap (λ s. fin s 1 (pos steps)) (sym z.0)) z.1

@@ -3,7 +3,7 @@ use mathlib.Core.Path.{◌≡◌, refl, sym, ap, ◌∙◌, subst}
 use mathlib.Core.Bool.{Bool, true, false, cond}
 use Prim.Native.Nat.{ℕ, ◌+◌, ◌*◌, ◌^◌, ◌≤◌}
 use lib.Dec.{T}
-use lib.Ieee.{nan, inf, binary32, div, of_bits}
+use lib.Ieee.{nan, inf, binary32, of_bits}
 use Rattle.float.proofs.Classified.{is-nan, is-infinite, is_finite}
 use Rattle.narrow.specs.Narrow.{narrow_of}
 use Rattle.narrow.proofs.Rounded.{bits-le, finite-bits}
@@ -12,10 +12,6 @@ use Rattle.narrow.proofs.narrow.Goals as goal
 of_nan : narrow_of nan ≡ nan
 unfolding narrow_of
 of_nan = refl
-
-no_number : div binary32 (of_bits binary32 0) (of_bits binary32 0) ≡ nan
-unfolding div of_bits
-no_number = refl
 
 of_inf : (s : Bool) → of_bits binary32 (cond s (2 ^ 31) 0 + 255 * 2 ^ 23) ≡ narrow_of (inf s)
 unfolding narrow_of of_bits
@@ -31,8 +27,9 @@ pub signed-requires-in-Finite : goal.signed-requires-in-Finite
 signed-requires-in-Finite c = subst (λ (n : ℕ). n ≤ 255 * 2 ^ 23) (sym c.narrow_bits.ensures) (bits-le _ _)
 
 pub returns-in-NotANumber : goal.returns-in-NotANumber
+unfolding of_bits
 returns-in-NotANumber c =
-    no_number ∙ sym (ap narrow_of (is-nan c.args.x (sym c.classify.ensures ∙ c.in-NotANumber.is)) ∙ of_nan)
+    sym (ap narrow_of (is-nan c.args.x (sym c.classify.ensures ∙ c.in-NotANumber.is)) ∙ of_nan)
 
 pub returns-in-Infinite : goal.returns-in-Infinite
 returns-in-Infinite c =

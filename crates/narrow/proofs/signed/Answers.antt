@@ -14,11 +14,11 @@ float_from_bits-result c = no-nan-coded binary32 true c.args.n c.requires
 pub returns-then-negative : goal.returns-then-negative
 returns-then-negative c = ap (λ (s : Bool). of_bits binary32 (cond s (2 ^ 31) 0 + c.args.n)) (sym c.if-negative.true)
 
-pub float_from_bits-result-2 : goal.float_from_bits-result-2
-float_from_bits-result-2 c =
+pub float_from_bits-result-else-negative : goal.float_from_bits-result-else-negative
+float_from_bits-result-else-negative c =
     subst (λ (b : ℕ). T (not (nan_bits binary32 b))) (zero-add c.args.n) (no-nan-coded binary32 false c.args.n c.requires)
 
-pub returns : goal.returns
-returns c =
+pub returns-else-negative : goal.returns-else-negative
+returns-else-negative c =
     let n = c.args.n in
     ap (of_bits binary32) (sym (zero-add n)) ∙ ap (λ (s : Bool). of_bits binary32 (cond s (2 ^ 31) 0 + n)) (sym c.if-negative.false)

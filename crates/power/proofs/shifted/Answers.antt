@@ -2,5 +2,5 @@
 use Rattle.power.proofs.Floors.{none_left}
 use Rattle.power.proofs.shifted.Goals as goal
 
-pub returns-then-s-ge53 : goal.returns-then-s-ge53
-returns-then-s-ge53 c = none_left c.args.sig c.args.s c.requires c.if-s-ge53.true
+pub returns-else-s-lt53 : goal.returns-else-s-lt53
+returns-else-s-lt53 c = none_left c.args.sig c.args.s c.requires c.if-s-lt53.false

@@ -7,12 +7,12 @@ use Rattle.sequence.proofs.push.Goals as goal
 
 pub returns-then-count-n : goal.returns-then-count-n
 unfolding count_after
-returns-then-count-n c =
+returns-then-count-n g c =
     let a = c.args in
     (omega arith, store_free a.count a.v.now a.x (omega arith))
 
 pub returns : goal.returns
 unfolding count_after
-returns c =
+returns g c =
     let a = c.args in
     (omega arith, c.slide.ensures ∙ store-full a.count a.v.now a.x (omega arith))

@@ -1,7 +1,8 @@
 -- `strand_image::get_decision` meets its contract.
+use Rattle.codec.specs.Forms.{f64, maybe}
 use mathlib.Core.Path.{◌≡◌, ap, ◌∙◌}
 use native.Mathlib.Omega.{arith}
-use Rattle.strand_image.specs.Strand.{decision, counts, power}
+use Rattle.strand_image.specs.Strand.{decision, counts}
 use Prim.Native.Nat.{◌+◌}
 use lib.Dec.{lit<}
 use lib.ListN.{get_or}
@@ -25,5 +26,5 @@ returns c =
       onsets = (n k).onsets;
       offsets = (n k).offsets;
       hold = c.get_capped-hold.ensures k;
-      power = (c.get_power-power.ensures ∙ ap (power.dec l) p5) k;
+      power = (c.get_option-power.ensures ∙ ap ((maybe f64).dec l) p5) k;
     }

@@ -4,4 +4,4 @@ use Rattle.strand_image.proofs.get_state.Goals as goal
 
 pub returns : goal.returns
 unfolding state
-returns c = λ k. record { z1 = c.get64-z1.ensures k; z2 = c.get64-z2.ensures k }
+returns c = λ k. record { z1 = c.get-z1.ensures k; z2 = c.get-z2.ensures k }

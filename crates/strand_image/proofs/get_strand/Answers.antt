@@ -1,7 +1,7 @@
 -- `strand_image::get_strand` meets its contract.
 use mathlib.Core.Path.{◌≡◌, ap, ◌∙◌}
 use native.Mathlib.Omega.{arith}
-use Rattle.strand_image.specs.Strand.{strand, front, state, filters, powers, decimated, floor, smoothed, window, minima, history, decision}
+use Rattle.strand_image.specs.Strand.{strand, front, state, filters, powers, decimated, floor, window, latest, history, decision}
 use Prim.Native.Nat.{ℕ, ◌+◌}
 use lib.ListN.{get_or}
 use lib.Ieee.{binary64}
@@ -17,8 +17,8 @@ get_floor-floor-requires c = omega (arith, c.ranges.at)
 pub overflow_add-i-7 : goal.overflow_add-i-7
 overflow_add-i-7 c = omega (arith, c.ranges.at)
 
-pub get_history-history-requires : goal.get_history-history-requires
-get_history-history-requires c = omega (arith, c.ranges.at)
+pub get_latest-history-requires : goal.get_latest-history-requires
+get_latest-history-requires c = omega (arith, c.ranges.at)
 
 pub overflow_add-i-8 : goal.overflow_add-i-8
 overflow_add-i-8 c = omega (arith, c.ranges.at)
@@ -27,7 +27,7 @@ pub get_decision-decision-requires : goal.get_decision-decision-requires
 get_decision-decision-requires c = omega (arith, c.ranges.at)
 
 pub returns : goal.returns
-unfolding strand front state filters powers decimated floor smoothed window minima history
+unfolding strand front state filters decimated floor window latest
 returns c =
     let l = c.args.w.now in
     let i = c.args.at in
@@ -41,14 +41,14 @@ returns c =
       level = record {
         shelf = c.get_state-shelf.ensures k;
         high_pass = c.get_state-high_pass.ensures k;
-        fast = (c.get64-fast.ensures ∙ ap (λ (n : ℕ). num_of binary64 (get_or l n 0)) p24) k;
-        powers = (c.get_powers-powers.ensures ∙ ap (powers.dec l) p25) k;
+        fast = (c.get-fast.ensures ∙ ap (λ (n : ℕ). num_of binary64 (get_or l n 0)) p24) k;
+        powers = (c.get_latest-powers.ensures ∙ ap (powers.dec l) p25) k;
       };
       detector = record {
         filters = (c.get_filters-filters.ensures ∙ ap (filters.dec l) p8) k;
         decimated = c.get_decimated-decimated.ensures k;
         floor = (c.get_floor-floor.ensures ∙ ap (floor.dec l) p567) k;
-        history = (c.get_history-history.ensures ∙ ap (history.dec l) p580) k;
+        history = (c.get_latest-history.ensures ∙ ap (history.dec l) p580) k;
       };
       decision = (c.get_decision-decision.ensures ∙ ap (decision.dec l) p621) k;
     }

@@ -7,4 +7,4 @@ use Rattle.strand_image.proofs.put_decimated.Goals as goal
 
 pub returns : goal.returns
 unfolding decimated
-returns c = listed (to_bits binary32) c.args.p.list 240 (search rules) c.put_list32.ensures
+returns c = listed (to_bits binary32) c.args.p.list 240 (search rules) c.put_list.ensures

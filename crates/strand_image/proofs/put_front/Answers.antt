@@ -10,5 +10,5 @@ returns c =
     then c.put_state.ensures (omega arith)
     (then c.put_state-2.ensures (omega arith)
     (then c.put_filters.ensures (omega arith)
-    (then (single c.put64.ensures) (omega arith)
-    c.put_powers.ensures)))
+    (then (single c.put.ensures) (omega arith)
+    c.put_latest.ensures)))

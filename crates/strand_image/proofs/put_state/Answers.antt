@@ -8,6 +8,6 @@ use Rattle.strand_image.proofs.put_state.Goals as goal
 pub returns : goal.returns
 unfolding state
 returns c =
-    then (single c.put64.ensures) (omega arith)
-    (then (single c.put64-2.ensures) (omega arith)
+    then (single c.put.ensures) (omega arith)
+    (then (single c.put-2.ensures) (omega arith)
     (these 2 refl c.put_zeros.ensures))

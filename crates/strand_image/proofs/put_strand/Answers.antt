@@ -10,5 +10,5 @@ returns c =
     then c.put_front.ensures (omega arith)
     (then c.put_decimated.ensures (omega arith)
     (then c.put_floor.ensures (omega arith)
-    (then c.put_history.ensures (omega arith)
+    (then c.put_latest.ensures (omega arith)
     c.put_decision.ensures)))

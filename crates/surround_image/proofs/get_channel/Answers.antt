@@ -18,5 +18,5 @@ returns c =
     λ k. record {
       shelf = c.get_filter-shelf.ensures k;
       high_pass = c.get_filter-high_pass.ensures k;
-      fast = (c.get64-fast.ensures ∙ ap (λ (n : ℕ). num_of binary64 (get_or l n 0)) p) k;
+      fast = (c.get-fast.ensures ∙ ap (λ (n : ℕ). num_of binary64 (get_or l n 0)) p) k;
     }

@@ -17,22 +17,19 @@ use Rattle.surround_image.proofs.get_others.Goals as goal
 
 pub loop-k-init : goal.loop-k-init
 unfolding resting_others
-loop-k-init c = (omega arith, ap (λ (l : Surround). l.others) c.new-fresh.ensures ∙ read_none channel resting _ _ 7)
-
-pub loop-k-smaller : goal.loop-k-smaller
-loop-k-smaller c = omega arith
+loop-k-init c = (ap (λ (l : Surround). l.others) c.new.ensures ∙ read_none channel resting _ _ 7)
 
 pub loop-k-preserved : goal.loop-k-preserved
 loop-k-preserved c =
     let l = c.args.w.now in
     let i = c.args.at in
     let at = c.loop-k in
-    let e : c.get_channel-c.result ≡ channel.dec l (i + channel.size * at.k) = c.get_channel-c.ensures ∙ ap {B = Channel} (λ (s : ℕ). channel.dec l (i + s * at.k)) (sym channel-size) in
-    (omega arith, ap (λ (v : List Channel). set v at.k c.get_channel-c.result) at.invariant.1 ∙ read-turn channel resting l i 7 at.k c.get_channel-c.result (omega arith) e)
+    let e : c.get_channel.result ≡ channel.dec l (i + channel.size * at.k) = c.get_channel.ensures ∙ ap {B = Channel} (λ (s : ℕ). channel.dec l (i + s * at.k)) (sym channel-size) in
+    (ap (λ (v : List Channel). set v at.k c.get_channel.result) at.invariant ∙ read-turn channel resting l i 7 at.k c.get_channel.result (omega arith) e)
 
 pub returns : goal.returns
 returns c =
     let x = c.args in
     let at = c.loop-k in
     let e : at.k ≡ x.n = omega arith in
-    at.invariant.1 ∙ ap (λ (m : ℕ). table (row_at channel resting x.w.now x.at m) 7) e
+    at.invariant ∙ ap (λ (m : ℕ). table (row_at channel resting x.w.now x.at m) 7) e

@@ -1,6 +1,5 @@
 -- `surround_image::get_others` meets its contract.
 use mathlib.Core.Path.{◌≡◌}
-use Prim.Native.Nat.{◌-◌, ◌≤◌}
 use Rattle.blocks.specs.Lists.{table}
 use Rattle.codec.specs.Codec.{row_at}
 use Rattle.channels.specs.Channels.{resting}
@@ -8,7 +7,4 @@ use Rattle.surround_image.specs.Surround.{channel}
 use Rattle.surround_image.proofs.get_others.Given as goal
 
 abbrev pub invariant-loop-k : goal.invariant-loop-k
-invariant-loop-k l = (l.k ≤ l.n) × (l.v ≡ table (row_at channel resting l.w l.at l.k) 7)
-
-abbrev pub decreases-loop-k : goal.decreases-loop-k
-decreases-loop-k l = l.n - l.k
+invariant-loop-k l = l.v ≡ table (row_at channel resting l.w l.at l.k) 7

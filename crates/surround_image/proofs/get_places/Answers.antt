@@ -16,22 +16,19 @@ use Rattle.surround_image.proofs.get_places.Goals as goal
 
 pub loop-k-init : goal.loop-k-init
 unfolding blanks
-loop-k-init c = (omega arith, ap (λ (l : Layout). l.places) c.new-fresh.ensures ∙ read_none place blank _ _ 8)
-
-pub loop-k-smaller : goal.loop-k-smaller
-loop-k-smaller c = omega arith
+loop-k-init c = (ap (λ (l : Layout). l.places) c.new.ensures ∙ read_none place blank _ _ 8)
 
 pub loop-k-preserved : goal.loop-k-preserved
 loop-k-preserved c =
     let l = c.args.w.now in
     let i = c.args.at in
     let at = c.loop-k in
-    let e : c.get_place-p.result ≡ place.dec l (i + place.size * at.k) = c.get_place-p.ensures ∙ ap {B = Place} (λ (s : ℕ). place.dec l (i + s * at.k)) (sym place-size) in
-    (omega arith, ap (λ (v : List Place). set v at.k c.get_place-p.result) at.invariant.1 ∙ read-turn place blank l i 8 at.k c.get_place-p.result (omega arith) e)
+    let e : c.get_place.result ≡ place.dec l (i + place.size * at.k) = c.get_place.ensures ∙ ap {B = Place} (λ (s : ℕ). place.dec l (i + s * at.k)) (sym place-size) in
+    (ap (λ (v : List Place). set v at.k c.get_place.result) at.invariant ∙ read-turn place blank l i 8 at.k c.get_place.result (omega arith) e)
 
 pub returns : goal.returns
 returns c =
     let x = c.args in
     let at = c.loop-k in
     let e : at.k ≡ x.n = omega arith in
-    at.invariant.1 ∙ ap (λ (m : ℕ). table (row_at place blank x.w.now x.at m) 8) e
+    at.invariant ∙ ap (λ (m : ℕ). table (row_at place blank x.w.now x.at m) 8) e

@@ -9,4 +9,4 @@ unfolding channel
 returns c =
     then c.put_filter.ensures (omega arith)
     (then c.put_filter-2.ensures (omega arith)
-    (single c.put64.ensures))
+    (single c.put.ensures))

@@ -1,20 +1,14 @@
--- `lay` meets its contract: the first k words are laid.
-use mathlib.Core.Path.{refl}
+-- `lay` meets its contract: the part that the words are copied to is laid over with them.
+use Prim.Native.Nat.{◌+◌, ◌-◌}
 use native.Mathlib.Omega.{arith}
-use Rattle.blocks.proofs.Lists.{none_yet, laid-length, turn, finish}
+use mathlib.Core.Path.{ap, ◌∙◌}
+use lib.ListN.{length}
+use borrow.Rule.Slice.PartMut.{put_mid}
+use Rattle.blocks.proofs.Lists.{laid-part}
 use Rattle.words.proofs.lay.Goals as goal
 
-pub loop-k-init : goal.loop-k-init
-loop-k-init c = (omega arith, none_yet _ _)
-
-pub bounds-to-at : goal.bounds-to-at
-bounds-to-at c = omega (arith, laid-length c.loop-k.invariant.1, c.requires, c.loop-k-test.true)
-
-pub loop-k-preserved : goal.loop-k-preserved
-loop-k-preserved c = (omega arith, turn _ c.loop-k.invariant.1 c.loop-k-test.true refl)
-
-pub shape_of-to : goal.shape_of-to
-shape_of-to c = laid-length c.loop-k.invariant.1
-
 pub returns : goal.returns
-returns c = finish _ c.loop-k.invariant.1 c.loop-k-test.false
+returns c =
+    let a = c.args in
+    let n = length a.words.now in
+    record { is = ap (put_mid a.at (a.at + n - a.at) a.to.now) c.copy_from_slice.ensures.after ∙ laid-part a.to.now a.words.now a.at (a.at + n - a.at) (omega arith) (omega arith) }

@@ -11,6 +11,3 @@ returns-then-self-eq1 c =
     let good = c.well_formed.0 in
     let e : length a.self.layout.places ≡ 8 = search (unmapped, good) in
     λ h. c.filtered_one.ensures ∙ one-is-all a.self a.own a.xs.now a.first e c.if-self-eq1.true h
-
-pub returns : goal.returns
-returns c = c.filtered_all.ensures

@@ -8,14 +8,8 @@ returns-then-silent c =
     let w = c.begin-w in
     let v = c.shelf_output-v in
     let p = c.holds in
-    let q = c.holds-2 in
+    let q = c.holds-then-holds in
     let s = c.silent in
     let b = c.tick-b in
-    λ t. rest-run a.c a.xs.now w.result v.result b.result c.still.result p.result q.result s.result
-    w.ensures v.ensures b.ensures c.still.ensures c.if-holds.true p.ensures.1 q.ensures.1 c.if-silent.true s.ensures
-
-pub returns-else-silent : goal.returns-else-silent
-returns-else-silent c = λ t. absurd t
-
-pub returns-else-holds : goal.returns-else-holds
-returns-else-holds c = λ t. absurd t
+    rest-run a.c a.xs.now w.result v.result b.result c.still.result p.result q.result s.result
+    w.ensures v.ensures b.ensures c.still.ensures c.if-holds.true p.ensures.1 c.if-holds-2.true q.ensures.1 c.if-silent.true s.ensures

@@ -8,7 +8,7 @@ use Rattle.channels.proofs.run.samples.Goals as goal
 pub returns : goal.returns
 returns c =
     let a = c.args in
-    let f = c.least-from in
-    ap (λ (t : ℕ). take (t - f.result) (drop f.result a.xs.now)) c.least-to.ensures
+    let f = c.min-from in
+    ap (λ (t : ℕ). take (t - f.result) (drop f.result a.xs.now)) c.min-to.ensures
     ∙ ap (λ (k : ℕ). take (min (k + 480) (length a.xs.now) - k) (drop k a.xs.now)) f.ensures
     ∙ cut a.xs.now (a.c * 480) 480

@@ -1,5 +1,5 @@
 -- `window` meets its contract, by `window-uneven` and `window-even`.
-use Rattle.std.proofs.Common.{arith, length-take}
+use Rattle.std.proofs.Common.{arith, length-take, rules}
 use Rattle.detector.proofs.Scanned.{window-uneven, window-even}
 use Rattle.detector.proofs.voicing.window.Goals as goal
 
@@ -8,9 +8,9 @@ slice_bounds-energy-end c = simp length-take (omega arith)
 
 pub returns-then-uneven : goal.returns-then-uneven
 returns-then-uneven c =
-    window-uneven _ _ _ _ c.energy-first.ensures c.energy-second.ensures c.uneven.ensures c.if-uneven.true
+    window-uneven c.args.x.now (search rules) _ _ _ c.energy-first.ensures c.energy-second.ensures c.uneven.ensures c.if-uneven.true
 
 pub returns : goal.returns
 returns c =
-    window-even _ _ _ _ c.energy-first.ensures c.energy-second.ensures c.uneven.ensures _ _ _ c.if-uneven.false
+    window-even c.args.x.now (search rules) _ _ _ c.energy-first.ensures c.energy-second.ensures c.uneven.ensures _ _ _ c.if-uneven.false
     c.energy-head.ensures c.energy-tail.ensures c.lags-e.ensures

@@ -1,35 +1,36 @@
 -- `Layout::stored` meets its contract. The loop's invariant: the first i places are filled.
-use Prim.Native.Nat.{ℕ, min}
 use native.Mathlib.Omega.{arith}
-use mathlib.Core.Path.{◌≡◌, ap, ◌∙◌}
-use mathlib.Core.List.{map}
-use lib.ListN.{take, set}
-use borrow.Author.Rules.{rules}
+use mathlib.Core.Path.{◌≡◌, refl, ap, ◌∙◌}
+use mathlib.Core.List.{List, map}
+use lib.ListN.{take, set, length-take}
+use lib.Seq.{take_all}
 use Rattle.sequence.specs.History.{laid, filled}
-use Rattle.sequence.proofs.Sized.{unmapped}
 use Rattle.sequence.proofs.Filled.{laid-turn}
+use Rattle.layout.specs.declared.Place.{Place}
 use Rattle.layout.specs.Layout.{placed_of, stored_of, blank, blanks}
 use Rattle.layout.proofs.Blank.{blanks-length}
 use Rattle.layout.proofs.Layout.stored.Goals as goal
 
 pub loop-i-init : goal.loop-i-init
-loop-i-init c = (search (rules, unmapped), omega arith, omega arith, search rules)
+unfolding blanks
+loop-i-init c = refl
 
 pub loop-i-preserved : goal.loop-i-preserved
+unfolding blanks
 loop-i-preserved c =
     let l = c.loop-i in
-    let a = c.args.self in (
-      l.invariant.0,
-      l.invariant.1,
-      omega arith,
-      (λ k. set (l.invariant.3 k) l.i (c.placed.ensures k))
-          ∙ laid-turn placed_of a.places blanks l.i blank blank (omega arith) (omega (arith, blanks-length)),
-    )
+    let xs = take c.channels.result c.args.self.places in
+    (λ k. set (l.invariant k) l.i (c.placed.ensures k))
+    ∙ laid-turn placed_of xs blanks l.i blank blank c.loop-i-test.true (omega (arith, blanks-length, c.channels.ensures, length-take c.channels.result c.args.self.places))
 
 pub returns : goal.returns
 unfolding stored_of filled blanks
 returns c =
     let l = c.loop-i in
     let a = c.args.self in
-    let e : l.i ≡ min a.count 8 = omega arith in
-    λ k. record { count = a.count; places = (l.invariant.3 ∙ ap (λ (k : ℕ). laid (map placed_of (take k a.places)) blanks) e) k }
+    let xs = take c.channels.result a.places in
+    let all : take l.i xs ≡ xs = take_all l.i xs c.loop-i-test.false in
+    λ k. record {
+      count = a.count;
+      places = (l.invariant ∙ ap (λ (ys : List Place). laid (map placed_of ys) blanks) (all ∙ ap (λ n. take n a.places) c.channels.ensures)) k;
+    }

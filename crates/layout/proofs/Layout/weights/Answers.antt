@@ -1,37 +1,35 @@
 -- `Layout::weights` meets its contract. The loop's invariant: the first i places are filled.
-use Prim.Native.Nat.{ℕ, min}
 use native.Mathlib.Omega.{arith}
-use mathlib.Core.Path.{◌≡◌, ap, ◌∙◌}
-use mathlib.Core.List.{map}
-use lib.ListN.{take, set}
-use borrow.Author.Rules.{rules}
+use mathlib.Core.Path.{◌≡◌, refl, ap, ◌∙◌}
+use mathlib.Core.List.{List, map}
+use lib.Ieee.{nan}
+use lib.ListN.{take, set, length-take}
+use lib.Seq.{take_all}
 use Rattle.sequence.specs.History.{laid, filled}
-use Rattle.sequence.proofs.Sized.{unmapped}
 use Rattle.sequence.proofs.Filled.{laid-turn}
+use Rattle.layout.specs.declared.Place.{Place}
 use Rattle.layout.specs.Layout.{blank}
 use Rattle.layout.specs.Weights.{weight_of, no_weights, weights_of}
-use lib.Ieee.{nan}
 use Rattle.layout.proofs.Blank.{no-weights-length}
 use Rattle.layout.proofs.Layout.weights.Goals as goal
 
 pub loop-i-init : goal.loop-i-init
-loop-i-init c = (search (rules, unmapped), omega arith, omega arith, search rules)
+unfolding no_weights
+loop-i-init c = refl
 
 pub loop-i-preserved : goal.loop-i-preserved
+unfolding no_weights
 loop-i-preserved c =
     let l = c.loop-i in
-    let a = c.args.self in (
-      l.invariant.0,
-      l.invariant.1,
-      omega arith,
-      (λ k. set (l.invariant.3 k) l.i (c.weight.ensures k))
-          ∙ laid-turn weight_of a.places no_weights l.i blank nan (omega arith) (omega (arith, no-weights-length)),
-    )
+    let xs = take c.channels.result c.args.self.places in
+    (λ k. set (l.invariant k) l.i (c.weight.ensures k))
+    ∙ laid-turn weight_of xs no_weights l.i blank nan c.loop-i-test.true (omega (arith, no-weights-length, c.channels.ensures, length-take c.channels.result c.args.self.places))
 
 pub returns : goal.returns
 unfolding weights_of filled no_weights
 returns c =
     let l = c.loop-i in
     let a = c.args.self in
-    let e : l.i ≡ min a.count 8 = omega arith in
-    l.invariant.3 ∙ ap (λ (k : ℕ). laid (map weight_of (take k a.places)) no_weights) e
+    let xs = take c.channels.result a.places in
+    let all : take l.i xs ≡ xs = take_all l.i xs c.loop-i-test.false in
+    l.invariant ∙ ap (λ (ys : List Place). laid (map weight_of ys) no_weights) (all ∙ ap (λ n. take n a.places) c.channels.ensures)

@@ -1,57 +1,14 @@
--- `arguments::asked` meets its contract, test by test.
-use mathlib.Core.Path.{sym}
-use borrow.Author.Tests.{lt-ltb, le-ltb}
+-- `arguments::asked` meets its contract: of a word of six bytes the check leaves the equation of its text.
+use Rattle.std.proofs.Common.{◌≡◌, arith, rules}
+use Rattle.std.proofs.lemmas.Slice.Eq.{text_from_reads}
+use borrow.Author.Tests.{le-ltb}
+use Rattle.program.specs.Text.{ascii}
 use Rattle.program.specs.Arguments.{request_of}
 use Rattle.program.proofs.arguments.asked.Goals as goal
 
-pub returns-then-count-lt2 : goal.returns-then-count-lt2
+pub returns-in-45-2 : goal.returns-in-45-2
 unfolding request_of
-returns-then-count-lt2 c =
-    simp (lt-ltb _ _ c.if-count-lt2.true)
-
-pub returns-then-same : goal.returns-then-same
-unfolding request_of
-returns-then-same c =
-    simp (
-      sym c.same.ensures,
-      le-ltb _ _ c.if-count-lt2.false,
-      c.if-same.true,
-    )
-
-pub returns-then-same-2 : goal.returns-then-same-2
-unfolding request_of
-returns-then-same-2 c =
-    simp (
-      sym c.same.ensures,
-      sym c.same-2.ensures,
-      le-ltb _ _ c.if-count-lt2.false,
-      c.if-same.false,
-      c.if-same-2.true,
-    )
-
-pub returns-then-same-3 : goal.returns-then-same-3
-unfolding request_of
-returns-then-same-3 c =
-    simp (
-      sym c.same.ensures,
-      sym c.same-2.ensures,
-      sym c.same-3.ensures,
-      sym c.option.ensures,
-      le-ltb _ _ c.if-count-lt2.false,
-      c.if-same.false,
-      c.if-same-2.false,
-      c.if-same-3.true,
-    )
-
-pub returns : goal.returns
-unfolding request_of
-returns c =
-    simp (
-      sym c.same.ensures,
-      sym c.same-2.ensures,
-      sym c.same-3.ensures,
-      le-ltb _ _ c.if-count-lt2.false,
-      c.if-same.false,
-      c.if-same-2.false,
-      c.if-same-3.false,
-    )
+returns-in-45-2 c =
+    let w = c.args.first.now in
+    let e : w ≡ ascii "--help" = text_from_reads w (ascii "--help") (omega arith) (search rules) in
+    rw e (simp (le-ltb _ _ c.if-count-lt2.false))

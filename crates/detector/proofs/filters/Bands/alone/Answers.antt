@@ -21,7 +21,7 @@ returns-then-quiet c =
     let m : length a.out.now ≡ 480 = search rules in
     let q = c.quiet.ensures.1 (subst T (sym c.if-quiet.true) tt) in
     let e : length a.out.now ≡ length a.xs.now = omega (arith, n, m) in
-    (c.step-first.ensures ∙ sym (q.runs (omega (arith, n))), c.fill.ensures ∙ (λ i. replicate (e i) (c.step-first.ensures i).pitch) ∙ sym q.outputs)
+    (c.step-first.ensures ∙ sym (q.runs (omega (arith, n))), c.fill.ensures.after (λ y e. e) ∙ (λ i. replicate (e i) (c.step-first.ensures i).pitch) ∙ sym q.outputs)
 
 pub returns : goal.returns
 returns c =

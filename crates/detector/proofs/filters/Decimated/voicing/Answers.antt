@@ -10,4 +10,4 @@ returns-then-self-lt-PITCH_WINDOW c =
 pub returns : goal.returns
 returns c =
     let a = c.args in
-    window-full a.self.count a.self.list _ (search rules) c.if-self-lt-PITCH_WINDOW.false c.widened-x.ensures _ c.window.ensures
+    window-full a.self.count a.self.list _ (search rules) c.if-self-lt-PITCH_WINDOW.false c.widened.ensures _ c.window.ensures
