@@ -49,17 +49,13 @@ fn loudness(w: &[u64; GIVEN]) -> level::Framed {
     }
 }
 
-// Flag and value.
-fn power_words(p: Option<f64>) -> [u64; 2] {
-    match p {
-        None => [0, 0],
-        Some(x) => [1, float::to_bits(x)],
-    }
-}
-
+// The frames left in the hold, and the speech power as flag and value.
 fn stored(d: Decision) -> [u64; 3] {
-    let [flag, value] = power_words(d.power);
-    [u64::from(d.hold), flag, value]
+    [
+        u64::from(d.hold),
+        u64::from(d.power.is_some()),
+        float::to_bits(d.power.unwrap_or(0.0)),
+    ]
 }
 
 impl List for Decisions {
@@ -85,10 +81,6 @@ impl List for Decisions {
         replay.compare(i, &stored(self.decision))?;
         replay.accept(i, f.finite);
         replay.count();
-        Ok(())
-    }
-
-    fn end(&self, _replay: &mut Replay, _count: u64) -> Result<(), EndsEarly> {
         Ok(())
     }
 }

@@ -41,8 +41,4 @@ impl List for DetectorFrames {
         self.detector = h.detector;
         replay.frame(i, &words(h.frame), h.finite)
     }
-
-    fn end(&self, _replay: &mut Replay, _count: u64) -> Result<(), EndsEarly> {
-        Ok(())
-    }
 }

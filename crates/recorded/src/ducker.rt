@@ -71,8 +71,4 @@ impl List for Ducker {
         replay.count();
         Ok(())
     }
-
-    fn end(&self, _replay: &mut Replay, _count: u64) -> Result<(), EndsEarly> {
-        Ok(())
-    }
 }

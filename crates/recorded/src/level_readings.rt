@@ -38,8 +38,4 @@ impl List for LevelReadings {
         self.level = f.level;
         replay.frame(i, &words(f.reading), f.finite)
     }
-
-    fn end(&self, _replay: &mut Replay, _count: u64) -> Result<(), EndsEarly> {
-        Ok(())
-    }
 }
