@@ -5,7 +5,7 @@ ghost use Rattle.std.specs.Prelude.{◌≡◌, ◌<◌};
 ghost use Rattle.beds.specs.Beds.{left, right, layout_for, found_of};
 ghost use Rattle.beds.specs.declared.Bed.TheVariants.{Stereo, FiveOne, SevenOne};
 
-use layout::{Layout, Place};
+use layout::{CENTRE, Layout, Place};
 
 #[derive(Clone, Copy)]
 pub enum Bed {
@@ -23,8 +23,7 @@ fn left(degrees: u64) -> Place
 {
     Place {
         azimuth: degrees,
-        elevation: 0,
-        lfe: 0,
+        ..CENTRE
     }
 }
 
@@ -34,24 +33,12 @@ fn right(degrees: u64) -> Place
     ensures { result ≡ right degrees }
 {
     Place {
-        azimuth: u64::MAX - (degrees - 1),
-        elevation: 0,
-        lfe: 0,
+        azimuth: degrees.wrapping_neg(),
+        ..CENTRE
     }
 }
 
-// In front, or in a place that isn't used.
-const CENTRE: Place = Place {
-    azimuth: 0,
-    elevation: 0,
-    lfe: 0,
-};
-
-const LFE: Place = Place {
-    azimuth: 0,
-    elevation: 0,
-    lfe: 1,
-};
+const LFE: Place = Place { lfe: 1, ..CENTRE };
 
 // ---- layouts
 

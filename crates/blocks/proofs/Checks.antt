@@ -1,8 +1,9 @@
 -- Laws of checks: one word more, what two words in one place do to a check, and the first bad block.
-use Rattle.std.proofs.Common.{◌≡◌, ℕ, zero, suc, ◌+◌, ◌-◌, ◌*◌, ◌/◌, ◌%◌, ◌^◌, ◌<◌, ◌≤◌, Bool, true, false, cond, eqb, List, [], ◌∷◌, ◌++◌, sym, refl, ap, ◌∙◌, le_refl, le_of_suc-le-suc, add-zero, div-add-mod', add-one, arith, eq-eqb, ne_eqb, ltb, ltb-true, ltb-false}
+use Rattle.std.proofs.Common.{◌≡◌, ℕ, zero, suc, ◌+◌, ◌-◌, ◌*◌, ◌/◌, ◌%◌, ◌^◌, ◌<◌, ◌≤◌, Bool, true, false, cond, eqb, Option, Some, None, is_some, List, [], ◌∷◌, ◌++◌, sym, refl, ap, ◌∙◌, le_refl, le_of_suc-le-suc, add-zero, div-add-mod', add-one, arith, eq-eqb, ne_eqb, eqb-true, ltb, ltb-true, ltb-false}
+use mathlib.Core.Bool.{true≢false}
 use native.Mathlib.Decide.{ℕ_discrete}
 use Rattle.blocks.specs.Lists.{table}
-use Rattle.blocks.specs.Words.{block_words, checked_words, word_at, rotated, mixed, check_from, check_of, holds, first_from}
+use Rattle.blocks.specs.Words.{block_words, checked_words, word_at, rotated, mixed, check_from, check_of, holds, first_from, blocks_in, first_bad, bad_of}
 use Rattle.blocks.proofs.Lists.{table_snoc, table_ext}
 
 -- ---- one word more
@@ -165,6 +166,30 @@ all-before p k (suc n) j e l h = go (p k) refl e (all-before p (suc k) n j)
       | no q ↦ rest (omega arith) (omega arith) (omega arith)
     ]
     go false t f rest = absurd (omega arith)
+
+-- the first bad block, or none, by their number
+module _ (b : List ℕ) where
+  pub bad-at : (k : ℕ) → k < blocks_in b → k ≡ first_bad b → Some k ≡ bad_of b
+  unfolding bad_of
+  bad-at k h e = rw (ne_eqb (first_bad b) (blocks_in b) (λ q. omega (arith, h, e, q)), ← e)
+
+  pub bad-nowhere : blocks_in b ≡ first_bad b → None ≡ bad_of b
+  unfolding bad_of
+  bad-nowhere e = rw (eq-eqb (first_bad b) (blocks_in b) (sym e))
+
+-- what a first bad block, or none, tells of their number
+module _ (b : List ℕ) (r : Option ℕ) (q : r ≡ bad_of b) where
+  pub some-bad : is_some r ≡ true → first_bad b ≡ blocks_in b → ⊥
+  unfolding bad_of
+  some-bad h e = true≢false (sym h ∙ ap is_some q ∙ rw (eq-eqb (first_bad b) (blocks_in b) e))
+
+  pub none-bad : is_some r ≡ false → first_bad b ≡ blocks_in b
+  unfolding bad_of
+  none-bad h = go (eqb (first_bad b) (blocks_in b)) refl (sym (ap is_some q) ∙ h)
+    where
+      go : (z : Bool) → eqb (first_bad b) (blocks_in b) ≡ z → is_some (cond z None (Some (first_bad b))) ≡ false → first_bad b ≡ blocks_in b
+      go true e t = eqb-true (first_bad b) (blocks_in b) e
+      go false e t = absurd (true≢false t)
 
 -- ---- the loop over the words of block k: j of them are read, and c is their check; past the last, the block holds
 

@@ -1,5 +1,5 @@
 -- Words and bytes, and the check of a block. Definitions only.
-use Rattle.std.specs.Prelude.{ℕ, zero, suc, ◌+◌, ◌*◌, ◌/◌, ◌%◌, ◌^◌, Bool, cond, List, [], ◌∷◌, ◌++◌, length, ◌==◌, slice_index}
+use Rattle.std.specs.Prelude.{ℕ, zero, suc, ◌+◌, ◌*◌, ◌/◌, ◌%◌, ◌^◌, Bool, cond, List, [], ◌∷◌, ◌++◌, length, ◌==◌, eqb, slice_index, Option, Some, None}
 use Rattle.blocks.specs.Lists.{table}
 
 -- a block: its bytes, its words, and its words before the check
@@ -76,3 +76,7 @@ blocks_in b = length b / block_bytes
 -- the first bad block of some bytes, and their number of blocks where there is none
 unfoldable pub first_bad : List ℕ → ℕ
 first_bad b = first_from (holds b) 0 (blocks_in b)
+
+-- the first bad block of some bytes, or none
+unfoldable pub bad_of : List ℕ → Option ℕ
+bad_of b = cond (eqb (first_bad b) (blocks_in b)) None (Some (first_bad b))

@@ -7,20 +7,20 @@ ghost use Rattle.blocks.specs.Words.{
   checked_words,
   rotated,
   mixed,
-  first_bad,
+  bad_of,
   blocks_in,
 };
 ghost use Rattle.blocks.specs.Image.{image_of, payload_of};
 
 pub mod little_endian;
 
-const BLOCK_BYTES: usize = 512;
+pub const BLOCK_BYTES: usize = 512;
 
 const BLOCK_WORDS: usize = 64;
 
-const CHECKED_WORDS: usize = 63; // a block's words before its check
+pub const CHECKED_WORDS: usize = 63; // a block's words before its check
 
-// x rotated left by one bit.
+// x rotated left by one bit: by its own shifts, as the specification has a rotation of the program's own.
 fn rotated(x: u64) -> u64
     ensures { result ≡ rotated x }
 {
@@ -28,27 +28,27 @@ fn rotated(x: u64) -> u64
 }
 
 // One word more in a check.
+#[tactic(auto, unfolding(crate::specs::Words::mixed))]
 fn mixed(c: u64, w: u64) -> u64
     ensures { result ≡ mixed c w }
 {
-    std::num::wrapping_add_u64(rotated(c), w)
+    rotated(c).wrapping_add(w)
 }
 
-// The first of the whole blocks of b whose check is wrong, or their number.
-pub fn first_bad(b: &[u8]) -> usize
-    ensures { result ≡ first_bad b.now }
+// The first of the whole blocks of b whose check is wrong. Loops over blocks and words, left by a label, as the specification's reading stops there.
+pub fn first_bad(b: &[u8]) -> Option<usize>
+    ensures { result ≡ bad_of b.now }
 {
-    let n = b.len() / BLOCK_BYTES;
     let (words, _) = b.as_chunks::<8>();
-    let mut bad = n;
-    'blocks: for block in 0..n {
+    let mut bad = None;
+    'blocks: for block in 0..b.len() / BLOCK_BYTES {
         let mut check = block as u64;
         for j in 0..BLOCK_WORDS {
             let w = u64::from_le_bytes(words[BLOCK_WORDS * block + j]);
             if j < CHECKED_WORDS {
                 check = mixed(check, w);
             } else if check != w {
-                bad = block;
+                bad = Some(block);
                 break 'blocks;
             }
         }
@@ -56,14 +56,15 @@ pub fn first_bad(b: &[u8]) -> usize
     bad
 }
 
-// The payload's word k; one that is missing counts as 0.
+// The payload's word k; one that is missing counts as 0. `codec` has the like for a sum of two places, which may not fit.
 fn word_or_zero(p: &[u64], k: usize) -> u64
     ensures { result ≡ slice_index p.now k }
 {
     p.get(k).copied().unwrap_or(0)
 }
 
-// The image of the payload p, in the whole blocks of b. Bytes after them stay.
+// The image of the payload p, in the whole blocks of b. Bytes after them stay. By place, here and below: of a slice whose chunks are lent, or that a zip
+// writes, std doesn't say what it ends as.
 pub fn write_image(p: &[u64], b: &mut [u8])
     ensures { b.new ≡ laid b.old 0 (image_of (blocks_in b.old) p.now) }
 {

@@ -17,8 +17,8 @@ fn bytes<const N: usize>(b: &[u8], i: usize) -> [u8; N]
     bytes
 }
 
-// The number that the four bytes from place i on stand for. A frame's samples are read by it: named one by one, the bytes are one
-// read for the compiler, where `bytes` alone takes nearly twice as long.
+// The number that the four bytes from place i on stand for. A frame's samples are read by it: named one by one, the bytes become one
+// load (docs/PERFORMANCE.md). `bytes` serves where some are missing.
 pub fn read4(b: &[u8], i: usize) -> u32
     ensures { result ≡ word4 b.now i }
 {

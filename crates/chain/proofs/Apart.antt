@@ -22,8 +22,9 @@ use Rattle.detector.specs.Filters as filters
 use Rattle.detector.specs.Detector as detector
 use Rattle.detector.proofs.Finished.{samples-all}
 use Rattle.paired_filters.specs.declared.Filtered.{Filtered}
-use Rattle.paired_filters.specs.declared.Side.TheVariants.{Key, Bed}
-use Rattle.paired_filters.specs.Pairs.{weighed_of, weighing_at, banded_of, bands_at, filtered_of}
+use Rattle.pairs.specs.declared.Place.TheVariants.{First, Second}
+use Rattle.pairs.specs.Pairs.{weighing_at}
+use Rattle.paired_filters.specs.Pairs.{weighed_of, banded_of, banded_at, filtered_of}
 use Rattle.vad.specs.declared.VadSettings.{VadSettings}
 use Rattle.vad.specs.declared.Strand.{Strand}
 use Rattle.vad.specs.Strand as strand
@@ -62,18 +63,18 @@ key_apart xs n t s =
 
 -- the filters, run side by side, are those of a strand's first channel
 module _ (c : Chain) (key bed : List Float) (f : Filtered) (e : f ≡ filters_of c key bed) where
-  pub key-weighed : filters.samples_of key ≡ map clean_of (first_channel key) → weighing_at f.weighed Key ≡ weighing.run_of (level.start_of c.key.level) (first_channel key)
+  pub key-weighed : filters.samples_of key ≡ map clean_of (first_channel key) → weighing_at f.weighed First ≡ weighing.run_of (level.start_of c.key.level) (first_channel key)
   unfolding filters_of filtered_of weighed_of weighing.run_of
-  key-weighed h = ap (λ (f : Filtered). weighing_at f.weighed Key) e ∙ ap (foldl weighing.step_of (level.start_of c.key.level)) h
+  key-weighed h = ap (λ (f : Filtered). weighing_at f.weighed First) e ∙ ap (foldl weighing.step_of (level.start_of c.key.level)) h
 
-  pub bed-weighed : filters.samples_of bed ≡ map clean_of (first_channel bed) → weighing_at f.weighed Bed ≡ weighing.run_of (level.start_of c.bed.level) (first_channel bed)
+  pub bed-weighed : filters.samples_of bed ≡ map clean_of (first_channel bed) → weighing_at f.weighed Second ≡ weighing.run_of (level.start_of c.bed.level) (first_channel bed)
   unfolding filters_of filtered_of weighed_of weighing.run_of
-  bed-weighed h = ap (λ (f : Filtered). weighing_at f.weighed Bed) e ∙ ap (foldl weighing.step_of (level.start_of c.bed.level)) h
+  bed-weighed h = ap (λ (f : Filtered). weighing_at f.weighed Second) e ∙ ap (foldl weighing.step_of (level.start_of c.bed.level)) h
 
-  pub key-bands : bands_at f.banded Key ≡ foldl filters.step_of (filters.begun c.key.detector.filters) (filters.samples_of key)
+  pub key-bands : banded_at f.banded First ≡ foldl filters.step_of (filters.begun c.key.detector.filters) (filters.samples_of key)
   unfolding filters_of filtered_of banded_of
-  key-bands = ap (λ (f : Filtered). bands_at f.banded Key) e
+  key-bands = ap (λ (f : Filtered). banded_at f.banded First) e
 
-  pub bed-bands : bands_at f.banded Bed ≡ foldl filters.step_of (filters.begun c.bed.detector.filters) (filters.samples_of bed)
+  pub bed-bands : banded_at f.banded Second ≡ foldl filters.step_of (filters.begun c.bed.detector.filters) (filters.samples_of bed)
   unfolding filters_of filtered_of banded_of
-  bed-bands = ap (λ (f : Filtered). bands_at f.banded Bed) e
+  bed-bands = ap (λ (f : Filtered). banded_at f.banded Second) e

@@ -5,6 +5,7 @@ use Rattle.vad.specs.declared.Strand.{Strand}
 use Rattle.vad.specs.declared.Framed as heard
 use Rattle.vad.specs.Strand as strand
 use Rattle.comis.specs.declared.loop_bank.Loops.{Loops}
+use Rattle.comis.specs.LoopBank.{zero_loops}
 use Rattle.ratio.specs.declared.Framed as duck
 use Rattle.ratio.specs.Frame as ratio
 use Rattle.settings.specs.declared.Settings.{Settings}
@@ -29,7 +30,7 @@ abbrev pub base_of : Chain → Base
 base_of c = record { settings = c.settings; key = c.key; bed = c.bed; loops = c.loops }
 
 abbrev pub fresh_base : Base
-fresh_base = record { settings = fresh_settings; key = strand.fresh_of; bed = strand.fresh_of; loops = ratio.zero_loops }
+fresh_base = record { settings = fresh_settings; key = strand.fresh_of; bed = strand.fresh_of; loops = zero_loops }
 
 -- ---- a frame
 

@@ -16,20 +16,33 @@ use Rattle.vad.specs.declared.VadSettings.{VadSettings}
 use Rattle.vad.specs.declared.Strand.{Strand}
 use Rattle.vad.specs.declared.Framed as heard
 use Rattle.vad.specs.Strand as strand
+use Rattle.comis.specs.LoopBank.{zero_loops}
 use Rattle.ratio.specs.declared.Inputs.{Inputs}
 use Rattle.ratio.specs.Frame as ratio
 use Rattle.settings.specs.declared.Settings.{Settings}
 use Rattle.chain.specs.declared.Chain.{Chain}
 use Rattle.chain.specs.declared.Answer.{Answer}
-use Rattle.chain.specs.declared.Framed.{Framed}
-use Rattle.chain.specs.declared.Changed.{Changed}
+use Rattle.chain.specs.declared.After.{After}
 use Rattle.chain.specs.declared.Worked.{Worked}
 use Rattle.settings.specs.Settings.{call_ranges, outside_settings, stored_of, fresh_settings}
+
+-- ---- what a call leaves and gets
+
+-- of a frame, and of a settings call, a reset and a layout call
+abbrev pub Framed : Type 0
+Framed = After Answer
+
+abbrev pub Changed : Type 0
+Changed = After Unit
+
+-- refused, and the chain as it was
+abbrev pub left_as_was : {A : Type 0} → Chain → Refusal → After A
+left_as_was c r = record { chain = c; outcome = Err r }
 
 -- ---- fresh
 
 abbrev pub fresh_of : Chain
-fresh_of = record { settings = fresh_settings; key = strand.fresh_of; bed = strand.fresh_of; loops = ratio.zero_loops; surround = channels.mono_surround }
+fresh_of = record { settings = fresh_settings; key = strand.fresh_of; bed = strand.fresh_of; loops = zero_loops; surround = channels.mono_surround }
 
 -- ---- a part replaced
 
@@ -78,7 +91,12 @@ work_of c key bed =
     (bed_level_of c bed).surround
 
 unfoldable pub refused_of : Chain → Refusal → Framed
-refused_of c r = record { chain = c; outcome = Err r }
+refused_of c r = left_as_was c r
+
+-- what the frame gets where its tests say nothing
+abbrev pub unless_refused : Chain → Result Unit Refusal → Framed → Framed
+unless_refused c (Ok t) f = f
+unless_refused c (Err r) f = refused_of c r
 
 -- the chain and the answer where the frame passes
 abbrev pub kept_of : Chain → Worked → Chain
@@ -103,7 +121,7 @@ abbrev pub verdict_of : Worked → Result Unit Refusal
 verdict_of w = cond (finite_in w) (cond (full_in w) (Err CounterFull) (Ok tt)) (Err Runaway)
 
 unfoldable pub judged_of : Chain → Worked → Framed
-judged_of c w = cond (finite_in w) (cond (full_in w) (refused_of c CounterFull) (passed_of c w)) (refused_of c Runaway)
+judged_of c w = unless_refused c (verdict_of w) (passed_of c w)
 
 -- 480 samples for each channel of the layout in force
 abbrev pub channel_count : Chain → ℕ
@@ -124,16 +142,15 @@ abbrev pub heard_of : Chain → List Float → List Float → Result Unit Refusa
 heard_of c key bed = cond (whole_frame c key bed) (cond (sound_frame key bed) (Ok tt) (Err BadSample)) (Err ShortFrame)
 
 unfoldable pub frame_of : Chain → List Float → List Float → Framed
-frame_of c key bed =
-    cond (whole_frame c key bed) (cond (sound_frame key bed) (judged_of c (work_of c key bed)) (refused_of c BadSample)) (refused_of c ShortFrame)
+frame_of c key bed = unless_refused c (heard_of c key bed) (judged_of c (work_of c key bed))
 
 -- ---- a settings call, a reset and a layout call
 
 abbrev pub changed : Chain → Changed
-changed c = record { chain = c; verdict = Ok tt }
+changed c = record { chain = c; outcome = Ok tt }
 
 abbrev pub unchanged : Chain → Refusal → Changed
-unchanged c r = record { chain = c; verdict = Err r }
+unchanged c r = left_as_was c r
 
 unfoldable pub set_of : Chain → Settings → Changed
 set_of c s = cond (outside_settings call_ranges s) (unchanged c BadSetting) (changed (with_settings c (stored_of s)))

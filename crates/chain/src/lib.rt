@@ -6,17 +6,18 @@ ghost use Rattle.std.specs.Prelude.{◌≡◌, take};
 ghost use Rattle.level.specs.Bs1770.{frame_length};
 ghost use Rattle.level.specs.Weighing.{run_of};
 ghost use Rattle.level.specs.Level.{start_of};
-ghost use Rattle.paired_filters.specs.Pairs.{weighing_at, bands_at};
+ghost use Rattle.pairs.specs.Pairs.{weighing_at};
+ghost use Rattle.paired_filters.specs.Pairs.{banded_at};
 ghost use Rattle.chain.specs.StrandFrames.{Whole, filters_of, pitch_of, finished_of};
-ghost use Rattle.chain.specs.Chain.{fresh_of, inputs_of, work_of, refused_of, passed_of, verdict_of, heard_of, frame_of, set_of, reset_of, channel_count, bed_length, layout_of};
+ghost use Rattle.chain.specs.Chain.{fresh_of, inputs_of, work_of, left_as_was, passed_of, verdict_of, heard_of, frame_of, set_of, reset_of, channel_count, bed_length, layout_of};
 
 use channels::Surround;
 use comis::loop_bank::Loops;
 use float::Db;
 use layout::Layout;
 use level::{FRAME, Level};
-use paired_filters::{BandedPairs, Filtered, Side};
-use pairs::{Pair, WeighedPairs};
+use paired_filters::Filtered;
+use pairs::{Pair, Place};
 use ratio::{Inputs, RatioStatus};
 use refusal::Refusal;
 use settings::Settings;
@@ -40,19 +41,19 @@ pub struct Answer {
     pub bed: VadState,
 }
 
-// The chain after a frame, and what the frame got.
+// The chain after a call, and what the call got. The chain stands beside the outcome, and no `&mut self`: in the specification's form a record is handed on
+// and handed back by each step, and after a refusal too it is promised.
 #[derive(Clone, Copy)]
-pub struct Framed {
+pub struct After<T> {
     pub chain: Chain,
-    pub outcome: Result<Answer, Refusal>,
+    pub outcome: Result<T, Refusal>,
 }
 
-// The chain after a settings call, a reset or a layout call, and what the call got.
-#[derive(Clone, Copy)]
-pub struct Changed {
-    pub chain: Chain,
-    pub verdict: Result<(), Refusal>,
-}
+// After a frame.
+pub type Framed = After<Answer>;
+
+// After a settings call, a reset or a layout call.
+pub type Changed = After<()>;
 
 // A strand after a frame, and its channels.
 #[derive(Clone, Copy)]
@@ -70,24 +71,23 @@ pub struct Worked {
     pub duck: ratio::Framed,
 }
 
-// What follows the filters of one strand, which have heard its first channel: both strands' filters, which of them it is, the outputs of its pitch
-// filter, and the samples of all its channels. The key is the case of one channel. Called for both strands, this stays a function of its own, so that
-// the compiler stores what the filters leave in pairs and computes both strands with one instruction.
+// What follows the filters of one strand, which have heard its first channel: both strands' filters f, its place in them (the key's is the first), the
+// outputs of its pitch filter, and the samples of all its channels. The key is the case of one channel. Called for both strands, this stays a function
+// of its own, so that the compiler stores what the filters leave in pairs and computes both strands with one instruction.
 #[tactic(auto, unfolding(crate::specs::StrandFrames::finished_of))]
 fn finished(
     t: Strand,
     surround: Surround,
-    weighed: WeighedPairs,
-    banded: BandedPairs,
-    side: Side,
+    f: &Filtered,
+    place: Place,
     pitch: &[f64; FRAME],
     xs: &[f32],
     settings: VadSettings,
 ) -> StrandFrame
-    ensures { weighing_at weighed side ≡ run_of (start_of t.level) (take frame_length xs.now) → result ≡ finished_of t surround (bands_at banded side) pitch.now xs.now settings }
+    ensures { weighing_at f.now.weighed place ≡ run_of (start_of t.level) (take frame_length xs.now) → result ≡ finished_of t surround (banded_at f.now.banded place) pitch.now xs.now settings }
 {
-    let l = surround.frame(side.weighing(weighed), t.level, xs);
-    let h = t.detector.finish(side.bands(banded), pitch);
+    let l = surround.frame(f.weighed.at(place), t.level, xs);
+    let h = t.detector.finish(f.banded.at(place), pitch);
     StrandFrame {
         framed: vad::finish(t.decision, l.framed, h, settings),
         surround: l.surround,
@@ -134,12 +134,7 @@ impl Chain {
             settings: Settings::new(),
             key: Strand::new(),
             bed: Strand::new(),
-            loops: Loops {
-                slow: Db(0.0),
-                mid: Db(0.0),
-                fast: Db(0.0),
-                hold_remaining_seconds: 0.0,
-            },
+            loops: Loops::new(),
             surround: Surround::new(),
         }
     }
@@ -182,9 +177,8 @@ impl Chain {
         let key_frame = finished(
             self.key,
             Surround::new(),
-            f.weighed,
-            f.banded,
-            Side::Key,
+            &f,
+            Place::First,
             &key_pitch,
             key,
             self.settings.key,
@@ -192,9 +186,8 @@ impl Chain {
         let bed_frame = finished(
             self.bed,
             self.surround,
-            f.weighed,
-            f.banded,
-            Side::Bed,
+            &f,
+            Place::Second,
             &bed_pitch,
             bed,
             self.settings.bed,
@@ -212,12 +205,11 @@ impl Chain {
         }
     }
 
-    // The frame is refused, and the chain stays as it was.
-    #[tactic(auto, unfolding(crate::specs::Chain::refused_of))]
-    fn refused(self, refusal: Refusal) -> Framed
-        ensures { result ≡ refused_of self refusal }
+    // The call is refused, and the chain stays as it was.
+    pub fn refused<T: Copy>(self, refusal: Refusal) -> After<T>
+        ensures { result ≡ left_as_was self refusal }
     {
-        Framed {
+        After {
             chain: self,
             outcome: Err(refusal),
         }
@@ -228,7 +220,7 @@ impl Chain {
     fn passed(self, w: Worked) -> Framed
         ensures { result ≡ passed_of self w }
     {
-        Framed {
+        After {
             chain: Chain {
                 key: w.key.strand,
                 bed: w.bed.strand,
@@ -245,7 +237,8 @@ impl Chain {
         }
     }
 
-    // How many samples a frame of the bed has: 480 for each channel of the layout in force.
+    // How many samples a frame of the bed has: 480 for each channel of the layout in force. `frame_bytes::bed_samples` is the same product: of the
+    // crates that both use, `layout` has no FRAME and `level` no count of channels.
     fn bed_length(self) -> usize
         ensures { result ≡ bed_length self }
     {
@@ -266,8 +259,11 @@ impl Chain {
     }
 
     // One frame: 480 samples of the key, and of each of the bed's channels, one channel after the other. Refusals 1, 2, 4, 5, in this order over both
-    // strands; a refusal leaves the chain as it was. What was worked out stays in its place while it is judged: a Result of it would be one copy more.
-    #[tactic(auto, unfolding(crate::specs::Chain::frame_of, crate::specs::Chain::refused_of))]
+    // strands; a refusal leaves the chain as it was. What was worked out stays in its place while it is judged: a Result of it takes 5,400
+    // instructions a frame more.
+    // `key` and `bed` are two slices, here and at each interface, as C lends them: the key's length is fixed, and the bed's goes with the layout. A
+    // struct would only be made and taken apart at each.
+    #[tactic(auto, unfolding(crate::specs::Chain::frame_of, crate::specs::Chain::judged_of, crate::specs::Chain::refused_of))]
     pub fn frame(self, key: &[f32], bed: &[f32]) -> Framed
         ensures { result ≡ frame_of self key.now bed.now }
     {
@@ -287,22 +283,19 @@ impl Chain {
         ensures { result ≡ set_of self s }
     {
         if s.outside_call() {
-            return Changed {
-                chain: self,
-                verdict: Err(Refusal::BadSetting),
-            };
+            return self.refused(Refusal::BadSetting);
         }
-        Changed {
+        After {
             chain: Chain {
                 settings: settings::stored(s),
                 ..self
             },
-            verdict: Ok(()),
+            outcome: Ok(()),
         }
     }
 
     // The key strand (0) or the bed strand (1) begins anew, its counts apart; the bed keeps its layout. Refusal 9: a strand is a number here, as a call
-    // brings it, so that the calls of any interface share this test.
+    // brings it. An enum would put this test and its refusal into each interface.
     #[tactic(auto, unfolding(crate::specs::Chain::reset_of))]
     pub fn reset(self, strand: u64) -> Changed
         ensures { result ≡ reset_of self strand }
@@ -317,16 +310,11 @@ impl Chain {
                 surround: Surround::of(self.surround.layout),
                 ..self
             },
-            _ => {
-                return Changed {
-                    chain: self,
-                    verdict: Err(Refusal::NoStrand),
-                };
-            }
+            _ => return self.refused(Refusal::NoStrand),
         };
-        Changed {
+        After {
             chain,
-            verdict: Ok(()),
+            outcome: Ok(()),
         }
     }
 
@@ -336,12 +324,9 @@ impl Chain {
         ensures { result ≡ layout_of self l }
     {
         if !l.within() {
-            return Changed {
-                chain: self,
-                verdict: Err(Refusal::BadLayout),
-            };
+            return self.refused(Refusal::BadLayout);
         }
-        Changed {
+        After {
             chain: Chain {
                 bed: Strand {
                     level: Level::new(),
@@ -350,7 +335,7 @@ impl Chain {
                 surround: Surround::of(l.stored()),
                 ..self
             },
-            verdict: Ok(()),
+            outcome: Ok(()),
         }
     }
 }

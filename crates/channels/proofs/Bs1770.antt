@@ -21,7 +21,7 @@ use Rattle.level.specs.declared.Reading.{Reading}
 use Rattle.float.specs.Arithmetic.{zero64}
 use Rattle.level.specs.Bs1770.{filtered, weighted, energy, mean, smoothed, loudness}
 use Rattle.level.specs.Weighing.{clean_of, run_of}
-use Rattle.sequence.specs.Latest.{zeros}
+use Rattle.sequence.specs.Latest.{blanks}
 use Rattle.level.specs.Level.{no_channel, lufs_of}
 use Rattle.level.specs.Deque.{deque_mean, frames_with}
 use Rattle.level.proofs.Deque.{mean-deque}
@@ -249,7 +249,7 @@ module _ (ws : List Float) (fs : List (List Float)) (f : List Float) (j : JointL
       ∙ bs1770-at ws (each (heard n fs) (cleaned n f))
 
 pub channels-bs1770 : ReadsBs1770
-unfolding joint_after zeros
+unfolding joint_after blanks
 channels-bs1770 ws fs f w e =
     let size = length-replicate (length ws) resting in
     reads-from ws fs f (fresh_joint (length ws)) w (omega (arith, size)) refl

@@ -8,7 +8,7 @@ use lib.ListN.{length, drop, get_or}
 use lib.Ieee.{Float}
 use Rattle.level.specs.declared.Weighing.{Weighing}
 use Rattle.level.specs.declared.Level.{Level}
-use Rattle.sequence.specs.Latest.{zeros}
+use Rattle.sequence.specs.Latest.{blanks}
 use Rattle.level.specs.Level.{fresh_of}
 use Rattle.layout.specs.declared.Layout.{Layout}
 use Rattle.layout.specs.Weights.{used_weights}
@@ -52,7 +52,7 @@ nexts l (f ∷ fs) b e =
 -- ---- from fresh
 
 pub layout-bs1770 : ReadsLayout
-unfolding bed_after bed_frame_of resting_others zeros
+unfolding bed_after bed_frame_of resting_others blanks
 layout-bs1770 l fs f w e =
     let fresh : Bed = record { level = fresh_of; surround = resting_of l } in
     let n = length (used_weights l) in

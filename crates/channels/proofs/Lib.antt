@@ -1,6 +1,5 @@
 pub mod Cut
 pub mod Weighings
-pub mod Sums
 pub mod Runs
 pub mod Resting
 pub mod Alone

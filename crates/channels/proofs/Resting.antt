@@ -1,5 +1,5 @@
 -- A channel in silence whose filters rest: only its fast number and its energy change, and where they rest too, nothing does.
-use Prim.Native.Nat.{ℕ, zero, suc, ◌-◌, ◌<◌}
+use Prim.Native.Nat.{ℕ, zero, suc, ◌<◌}
 use native.Mathlib.Omega.{arith}
 use mathlib.Core.Path.{◌≡◌, refl, ap, sym, subst, ◌∙◌}
 use mathlib.Core.List.{List, [], ◌∷◌, foldl}
@@ -18,19 +18,6 @@ use Rattle.level.specs.Weighing.{clean_of, weighed, step_of, run_of}
 use Rattle.channels.specs.declared.Channel.{Channel}
 use Rattle.channels.specs.Channels.{begin_of}
 use Rattle.channels.specs.Rest.{still_run, Silent}
-
--- one turn of the loop
-pub still-turn : (y2 : Float) (w next : Weighing) (k : ℕ) → 0 < k → next ≡ still_step y2 w → still_run y2 (k - 1) next ≡ still_run y2 k w
-unfolding still_run
-still-turn y2 w next zero h e = absurd (omega arith)
-still-turn y2 w next (suc k) h e =
-    let m : suc k - 1 ≡ k = omega arith in
-    ap (λ (n : ℕ). still_run y2 n next) m ∙ ap (still_run y2 k) e
-
-pub still-end : (y2 : Float) (w : Weighing) (k : ℕ) → k ≡ 0 → w ≡ still_run y2 k w
-unfolding still_run
-still-end y2 w zero e = refl
-still-end y2 w (suc k) e = absurd (omega (arith, e))
 
 -- nothing changes
 pub still-same : (y2 : Float) (w : Weighing) (n : ℕ) → still_step y2 w ≡ w → w ≡ still_run y2 n w

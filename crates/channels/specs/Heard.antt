@@ -1,7 +1,7 @@
 -- What the bed's channels have heard after a list of frames, and what the level is to read then. Frames and samples run oldest first.
 use Rattle.std.specs.Prelude.{ℕ, ◌*◌, ◌≤◌, ◌≡◌, T, length, replicate, Float}
 use mathlib.Core.List.{List, [], ◌∷◌, ◌++◌, map, foldl}
-use Rattle.float.specs.Arithmetic.{one64}
+use Rattle.float.specs.Arithmetic.{zero64, one64}
 use Rattle.float.specs.AllFinite.{all_finite}
 use Rattle.level.specs.declared.Level.{Level}
 use Rattle.level.specs.Bs1770.{frame_length, short_term_frames}
@@ -50,7 +50,7 @@ sources (b ∷ bs) (x ∷ xs) = record { weight = b; samples = x } ∷ sources b
 
 -- the level of n channels that has heard nothing, and that after the frames
 abbrev pub fresh_joint : ℕ → JointLevel
-fresh_joint n = record { channels = replicate n resting; powers = no_values 300 }
+fresh_joint n = record { channels = replicate n resting; powers = no_values short_term_frames zero64 }
 
 unfoldable pub joint_after : List Float → List (List Float) → JointLevel
 joint_after weights fs = foldl (λ (j : JointLevel) (f : List Float). (joint_frame_of j weights f).level) (fresh_joint (length weights)) fs

@@ -18,7 +18,8 @@ use biquad::State;
 use layout::Layout;
 use level::{FRAME, Framed, Joint, Level, Weighing};
 
-// What a channel keeps from frame to frame. `Level` holds the same three beside its powers, by the Rust's names and in the image's order.
+// What a channel keeps from frame to frame. `Level` has the same three by themselves: the definitions of a level and of what it stores name them so
+// (as `start_of`, `meter_of`, `of_level`), and in an image the detector's filters stand between the second and the third.
 #[derive(Clone, Copy)]
 pub struct Channel {
     pub shelf: State,
@@ -26,7 +27,8 @@ pub struct Channel {
     pub fast: f64,
 }
 
-// What a chain keeps beside the bed strand's level: the layout, and channels 2 to 8. Those past the layout's count are at rest.
+// What a chain keeps beside the bed strand's level: the layout, and channels 2 to 8. Those past the layout's count are at rest: seven places whatever the
+// count is, as an image has them.
 #[derive(Clone, Copy)]
 pub struct Surround {
     pub layout: Layout,
@@ -34,7 +36,7 @@ pub struct Surround {
 }
 
 // What the channels' filters leave of a frame: the sums over them, whether the numbers that they store are finite, and the channels.
-// The flag stands beside the values, and no Option around them: the values are promised whatever it says.
+// The flag stands beside the values, and no Option around them, since refusal 4 tests it with the numbers of both strands.
 #[derive(Clone, Copy)]
 pub struct Filtered {
     pub joint: Joint,
@@ -76,13 +78,15 @@ impl Channel {
 }
 
 // What a channel keeps of its filters.
-fn kept(w: Weighing) -> Channel
-    ensures { result ≡ kept_of w }
-{
-    Channel {
-        shelf: w.shelf,
-        high_pass: w.high_pass,
-        fast: w.fast,
+impl From<Weighing> for Channel {
+    ghost from_gives = { λ w channel. channel ≡ kept_of w };
+
+    fn from(w: Weighing) -> Channel {
+        Channel {
+            shelf: w.shelf,
+            high_pass: w.high_pass,
+            fast: w.fast,
+        }
     }
 }
 
@@ -90,14 +94,10 @@ fn kept(w: Weighing) -> Channel
 fn join(weights: &[f64], ws: &[Weighing]) -> Joint
     ensures { result ≡ join_all no_channel weights.now ws.now }
 {
-    let mut j = Joint {
-        power: 0.0,
-        fast: 0.0,
-    };
-    for (weight, w) in weights.iter().zip(ws) {
-        j = j.join(*weight, *w, FRAME);
-    }
-    j
+    weights
+        .iter()
+        .zip(ws)
+        .fold(Joint::new(), |j, (weight, w)| j.join(*weight, *w, FRAME))
 }
 
 // Whether the numbers that the channels store are finite.
@@ -107,14 +107,15 @@ fn all_stored(ws: &[Weighing]) -> bool
     ws.iter().all(|w| w.stored_finite())
 }
 
-// The channels after a frame in which the first ones were run, ws being their filters; the others stay.
+// The channels after a frame in which the first ones were run, ws being their filters; the others stay. By index: a loop over
+// `v.iter_mut().zip(ws)` gives its proof no name for the values that it writes.
 fn keep(channels: [Channel; 8], ws: &[Weighing]) -> [Channel; 8]
     requires { length ws.now ≤ most }
     ensures { result ≡ kept_in channels ws.now }
 {
     let mut v = channels;
     for (i, w) in ws.iter().enumerate() {
-        v[i] = kept(*w);
+        v[i] = Channel::from(*w);
     }
     v
 }
@@ -146,22 +147,18 @@ impl Surround {
         }
     }
 
-    // What the filters leave where the layout has one channel.
+    // What the filters leave where the layout has one channel: a function of its own, since a must-fail edit is made in it.
     #[tactic(auto, unfolding(crate::specs::Surround::filtered_one, crate::specs::Channels::stored_finite))]
     fn filtered_one(self, first: Weighing) -> Filtered
         ensures { result ≡ filtered_one self first }
     {
-        let none = Joint {
-            power: 0.0,
-            fast: 0.0,
-        };
         let places = self.layout.places;
         let p = places[0];
         let others = self.others;
         Filtered {
-            joint: none.join(p.weight(), first, FRAME),
+            joint: Joint::new().join(p.weight(), first, FRAME),
             finite: first.stored_finite(),
-            own: kept(first),
+            own: Channel::from(first),
             others,
         }
     }

@@ -17,11 +17,7 @@ fn still(w: Weighing, y2: f64, n: usize) -> Weighing
     if float::same(next.fast, w.fast) & float::same(next.energy, w.energy) {
         return w;
     }
-    let mut u = w;
-    for _ in 0..n {
-        u = u.still_step(y2);
-    }
-    u
+    (0..n).fold(w, |u, _| u.still_step(y2))
 }
 
 // Whether every sample is heard as 0.

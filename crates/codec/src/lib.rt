@@ -1,5 +1,6 @@
 // Numbers as words of a slice, and words as numbers. Each function is total: a word without a place is dropped, one that
-// isn't there reads as 0, and a word that breaks a rule is read as some good value.
+// isn't there reads as 0, and a word that breaks a rule is read as some good value. No Option: whether all words were good is told once, when what was
+// read is written again and compared. `at` says where a value begins in the one slice: a part of it would have to be cut, with its bound, for each value.
 #![tactic(auto)]
 
 ghost use Rattle.std.specs.Prelude.{◌≡◌, ◌∷◌, [], suc, ◌+◌, length, get_or, set, replicate};
@@ -30,7 +31,7 @@ pub trait Coded: Copy {
     fn from_word(w: u64) -> Self
         ensures { result ≡ cell.read w };
 
-    // What stands in an unused place.
+    // What stands in an unused place. Not by `Default`: std tells generic code no value of it.
     fn blank() -> Self
         ensures { result ≡ cell.blank };
 }
@@ -69,7 +70,7 @@ impl Coded for bool {
     }
 }
 
-// The bits of a finite number. A word that stands for none is read as 0.
+// The bits of a finite number. A word that stands for none is read as 0: the test is of the word, here and below, as must-fail edits turn it.
 impl Coded for f64 {
     ghost cell = { f64 };
 
@@ -96,7 +97,7 @@ impl Coded for f32 {
     ghost cell = { f32 };
 
     fn to_word(self) -> u64 {
-        float::to_bits32(self) as u64
+        u64::from(float::to_bits32(self))
     }
 
     #[tactic(auto, using(crate::proofs::Numbers::num32_in, crate::proofs::Numbers::num32_out, crate::proofs::Numbers::num32_wide, crate::proofs::Numbers::num32_no_nan))]
@@ -147,7 +148,7 @@ pub fn put_option<T: Coded>(w: &mut [u64], at: usize, x: Option<T>)
     }
 }
 
-// n zeros, from place `at` on.
+// n zeros, from place `at` on, one by one, since `store` drops what has no place.
 pub fn put_zeros(w: &mut [u64], at: usize, n: usize)
     ensures { Laid w.old at (replicate n 0) w.new }
 {
@@ -203,7 +204,7 @@ pub fn get_option<T: Coded>(w: &[u64], at: usize) -> Option<T>
 
 // ---- lists of values: a count, and the values; blanks stand in the places after them
 
-// The count and the places v, from place `at` on.
+// The count and the places v, from place `at` on. Count and slice, here and below, so that a list of any length is written by one function.
 pub fn put_list<T: Coded>(w: &mut [u64], at: usize, count: usize, v: &[T])
     ensures { Laid w.old at ((counted T.cell (length v.now)).enc (count, v.now)) w.new }
 {
@@ -239,8 +240,8 @@ pub fn get_list<T: Coded>(w: &[u64], at: usize, v: &mut [T]) -> usize
     ensures { (result, v.new) ≡ (counted T.cell (length v.old)).dec w.now at }
 {
     let n = count(w, at, v.len());
-    for k in 0..v.len() {
-        v[k] = value(w, at, n, k);
+    for (k, x) in v.iter_mut().enumerate() {
+        *x = value(w, at, n, k);
     }
     n
 }

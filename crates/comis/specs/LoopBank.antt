@@ -98,6 +98,11 @@ step_of l config state b value target dt =
     let t = scaled_of config b l.hold_remaining_seconds state in
     process_of (record { current = value.0 }) target.0 t.attack_seconds t.release_seconds dt
 
+-- ---- fresh
+
+abbrev pub zero_loops : Loops
+zero_loops = record { slow = db zero64; mid = db zero64; fast = db zero64; hold_remaining_seconds = zero64 }
+
 -- ---- ducking
 
 unfoldable pub step_slow : Loops → LoopBankConfig → MixState → Need → Float → Updated

@@ -56,7 +56,7 @@ impl AutomixEngineConfig {
         }
     }
 
-    // What the loops are set to. The two authorities are those of the Rust's `LoopBankConfig::default`.
+    // What the loops are set to. The two authorities are those of the Rust's `LoopBankConfig::default`: for them it is no `From`.
     pub fn loop_config(self) -> LoopBankConfig
         ensures { result ≡ loop_config self }
     {

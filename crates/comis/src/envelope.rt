@@ -8,7 +8,8 @@ pub struct EnvelopeDetector {
 }
 
 // An envelope after a step, and whether the number that the step handed to e ^ x, if any, was finite.
-// The flag stands beside the value, here and below, since the value is promised whatever the flag says.
+// The flag stands beside the value, here and below, since refusal 4 tests it with the numbers of both strands, and the value is promised till then. A type
+// for each, as each value has its own name.
 #[derive(Clone, Copy)]
 pub struct Stepped {
     pub envelope: EnvelopeDetector,

@@ -20,7 +20,7 @@ pub enum Shown {
 }
 
 impl Shown {
-    // 1 where there is a level, 0 for silence: an answer's words, which the C interface fixes, have a flag and a value.
+    // 1 where there is a level, 0 for silence: an answer's words, which the C interface fixes, have a flag and a value, here and below.
     pub fn flag(self) -> u64
         ensures { result ≡ shown_flag self }
     {

@@ -1,7 +1,8 @@
 // The three loops, whose reductions add in dB: slow states the answer, mid trims it by up to 6 dB either way, fast adds up to 4 dB.
-// `config`, `state` and `dt_seconds` travel one by one, as in the Rust, whose parameters are kept by name and order.
+// Parameters stand one by one, as the definitions in specs/ take them, and in the Rust's order, which the project keeps. The Rust has `config` and `state`
+// in its bank; `Loops` is only what a ducker keeps.
 ghost use Rattle.std.specs.Prelude.{◌≡◌};
-ghost use Rattle.comis.specs.LoopBank.{release_stretch, release_speedup, scaled_of, step_of, step_slow, step_mid, update_slow_mid, fast_goal, update_fast, update_release, contributions_of};
+ghost use Rattle.comis.specs.LoopBank.{zero_loops, release_stretch, release_speedup, scaled_of, step_of, step_slow, step_mid, update_slow_mid, fast_goal, update_fast, update_release, contributions_of};
 
 use super::envelope::{EnvelopeDetector, Stepped};
 use super::mix_state::MixState;
@@ -57,7 +58,8 @@ pub struct Loops {
 }
 
 // What a loop needs: nothing, where a reading is silence, or a reduction, dB, which may be below 0.
-// An enum of its own, as `Shown` is, and no Option: another type, so that a shown loudness can't be handed to a loop.
+// An enum of its own and no Option, as the specification has it for a need as for a shown reading; and not `Shown` itself, so that a shown loudness
+// can't be handed to a loop.
 #[derive(Clone, Copy)]
 pub enum Need {
     Nothing,
@@ -65,7 +67,7 @@ pub enum Need {
 }
 
 // The loops after an update, and whether all that the update handed to e ^ x was finite.
-// The flag stands beside the loops, and no Result, since they are promised whatever it says.
+// The flag stands beside the loops, and no Result, since refusal 4 tests it with the numbers of both strands, and the loops are promised till then.
 #[derive(Clone, Copy)]
 pub struct Updated {
     pub loops: Loops,
@@ -125,6 +127,18 @@ fn scaled(
 }
 
 impl Loops {
+    // No reduction, and nothing left of the ease-in.
+    pub fn new() -> Self
+        ensures { result ≡ zero_loops }
+    {
+        Self {
+            slow: Db(0.0),
+            mid: Db(0.0),
+            fast: Db(0.0),
+            hold_remaining_seconds: 0.0,
+        }
+    }
+
     // A value one step nearer to its target, by a loop's time constants. The smoother holds it as a plain number, dB.
     #[tactic(auto, unfolding(crate::specs::LoopBank::step_of))]
     fn step(
@@ -143,7 +157,8 @@ impl Loops {
         e.process(target.0, t.attack_seconds, t.release_seconds, dt_seconds)
     }
 
-    // Slow heads for its need, from 0 to the deepest reduction. Without a need it stays.
+    // Slow heads for its need, from 0 to the deepest reduction. Without a need it stays. Slow, mid and fast are a function each, as each is a row of the
+    // specification's table and a definition. `step` is what they share: one function of all three would have to choose the field that it writes.
     #[tactic(auto, unfolding(crate::specs::LoopBank::step_slow))]
     fn step_slow(
         mut self,

@@ -1,6 +1,6 @@
 // What the ducker does in a frame, by the two voice decisions alone.
 ghost use Rattle.std.specs.Prelude.{◌≡◌};
-ghost use Rattle.comis.specs.MixState.{from_vad, is_ducking, state_number};
+ghost use Rattle.comis.specs.MixState.{from_vad, is_ducking};
 
 // Its number in an answer stands with each state.
 #[derive(Clone, Copy, Debug, PartialEq, Eq)]
@@ -29,11 +29,16 @@ impl MixState {
     {
         matches!(self, MixState::DuckToTarget | MixState::DuckToOvervoice)
     }
+}
 
-    // The state's number in an answer: 0 release, 1 duck, 2 interview, 3 overvoice.
-    pub fn number(self) -> u64
-        ensures { result ≡ state_number self }
-    {
-        self as u64
+// The state's number in an answer: 0 release, 1 duck, 2 interview, 3 overvoice.
+impl From<MixState> for u64 {
+    ghost use Rattle.std.specs.Prelude.{◌≡◌};
+    ghost use Rattle.comis.specs.MixState.{state_number};
+
+    ghost from_gives = { λ state number. number ≡ state_number state };
+
+    fn from(state: MixState) -> u64 {
+        state as u64
     }
 }

@@ -101,8 +101,8 @@ unfolding
     late_of strand.finish_of decision.heard_of decision.smoothed_of decision.off_of decision.onset_of decision.offset_of decision.switch_of decision.mean_of decision.voiced_of decision.decide_of decision.full_of
     state.tenths_of state.hundredths_of state.rounded_of state.speech_level_of state.state_of
     level.finish_of level.read_of level.joined_of level.means_of mean level.lufs_of level.start_of weighing.run_of weighing.step_of loudness newest
-    detector.finish_of detector.powers_of filters.no_decimated detector.shown_of detector.probability_of
-    filters.run_of filters.step_of filters.outputs_of filters.kept_of filters.keep_of filters.eighths tick_of
+    detector.finish_of detector.powers_of detector.shown_of detector.probability_of
+    filters.run_of filters.step_of filters.outputs_of filters.kept_of filters.eighths tick_of
     floor.floor_of floor.smoothed_of floor.window_min_of floor.stored_of
     modulation.modulation_of modulation.variance_of modulation.mean_of modulation.deviations_of modulation.total_of
     voicing.voicing_of sqrt_of root_of root_of_units floor_root root_below hold_frames to_unsigned
@@ -111,7 +111,7 @@ unfolding
     inputs_of frame_of enabled_frame coeff_of process_of required_reduction active_target tick_in process_tick process_fast
     bank.release_stretch bank.release_speedup bank.scaled_of bank.step_of bank.step_slow bank.step_mid bank.update_slow_mid bank.duck_goal bank.fast_goal bank.update_fast bank.less_trim bank.update_release bank.contributions_of
     status.rounded_of status.reading_of status.ratio_shown status.status_of finite_shown finite_loops finite_status
-    all_finite db_of narrow_of max_of min_of values.push_of values.zeros count_after places_after latest is_nan neg le eq add sum sub mul div lt round size of_int of_bits
+    all_finite db_of narrow_of max_of min_of values.keep_of values.push_of values.blanks count_after places_after latest is_nan neg le eq add sum sub mul div lt round size of_int of_bits
     stored_of stored_strand stored_duck zeroed_of outside_settings outside_strand outside_duck outside_of
 computed = record {
   silent_finite = refl;

@@ -6,14 +6,14 @@ use Rattle.float.specs.Arithmetic.{zero64}
 use Rattle.float.specs.AllFinite.{all_finite}
 use Rattle.sequence.specs.History.{held, laid}
 use Rattle.detector.specs.declared.filters.Bands.{Bands}
-use Rattle.detector.specs.declared.filters.Decimated.{Decimated}
 use Rattle.detector.specs.declared.FramePowers.{FramePowers}
 use Rattle.detector.specs.declared.floor.Floored.{Floored}
 use Rattle.detector.specs.declared.modulation.Modulated.{Modulated}
 use Rattle.detector.specs.declared.voicing.Voicing.{Voicing}
 use Rattle.detector.specs.declared.Frame.{Frame}
 use Rattle.detector.specs.declared.FeatureDetector.{FeatureDetector}
-use Rattle.detector.specs.Filters.{no_samples, samples_of, states_of, outputs_of, kept_of, keep_of}
+use Rattle.sequence.specs.Latest.{keep_of}
+use Rattle.detector.specs.Filters.{no_samples, samples_of, states_of, outputs_of, Decimated, kept_of}
 use Rattle.detector.specs.Floor.{floor_of}
 use Rattle.detector.specs.Modulation.{modulation_of}
 use Rattle.detector.specs.Voicing.{voicing_of}

@@ -1,6 +1,4 @@
-pub mod Held
 pub mod Lay
-pub mod Room
 pub mod Outputs
 pub mod Decimation
 pub mod Lagged

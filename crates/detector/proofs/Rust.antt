@@ -1,5 +1,5 @@
 -- The port agrees with the Rust's detector: fresh, and after each frame whose numbers are finite.
-use Rattle.sequence.specs.Latest.{push_of, zeros}
+use Rattle.sequence.specs.Latest.{blanks, keep_of, push_of}
 use Rattle.std.proofs.Common.{◌≡◌, ℕ, zero, suc, ◌+◌, ◌*◌, ◌<◌, ◌≤◌, max, Bool, true, false, cond, T, eqb, ltb, List, [], ◌∷◌, ◌++◌, map, length, sym, refl, ap, ◌∙◌, subst, ap₂, arith, ltb-false, ltb-true, le-ltb, eq-eqb, ne_eqb, Option}
 use mathlib.Core.List.{foldl}
 use lib.ListN.{length-replicate}
@@ -11,9 +11,8 @@ use Rattle.sequence.specs.History.{latest, pushed, held, count_after, places_aft
 use Rattle.sequence.proofs.Deque.{latest-all, latest-size, latest-length, latest-latest, latest_append, pushes_block, shorter_block, pushes_latest}
 use Rattle.sequence.proofs.Places.{held_after, held_pushes, places-length}
 use Rattle.detector.specs.declared.filters.Bands.{Bands}
-use Rattle.detector.specs.declared.filters.Decimated.{Decimated}
 use Rattle.detector.specs.declared.floor.Floor.{Floor}
-use Rattle.detector.specs.Filters.{begun, run_of, outputs_of, no_decimated, eighths, kept_of, keep_of}
+use Rattle.detector.specs.Filters.{begun, run_of, outputs_of, Decimated, eighths, kept_of}
 use Rattle.detector.specs.Floor.{smoothed_of, window_min_of, next_of, stored_of, floor_of}
 use Rattle.detector.specs.Agrees.{FloorAgrees, Agrees}
 use Rattle.detector.specs.Voicing.{voicing_of}
@@ -215,8 +214,8 @@ fresh-agrees = record {
   phase = refl;
   decimated = unfold latest in refl;
   few = omega arith;
-  places = unfold no_decimated in length-replicate 240 (of_bits binary32 0);
-  floor = record { smoothed = refl; window_min = refl; window_frames = refl; within = omega arith; minima = refl; places = unfold zeros in length-replicate 8 zero64 };
+  places = unfold blanks in length-replicate 240 (of_bits binary32 0);
+  floor = record { smoothed = refl; window_min = refl; window_frames = refl; within = omega arith; minima = refl; places = unfold blanks in length-replicate 8 zero64 };
   history = refl;
-  values = unfold zeros in length-replicate 40 zero64;
+  values = unfold blanks in length-replicate 40 zero64;
 }

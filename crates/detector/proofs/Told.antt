@@ -6,7 +6,8 @@ use Rattle.sequence.specs.History.{held}
 use Rattle.float.specs.AllFinite.{all_finite}
 use Rattle.detector.specs.declared.filters.Bands.{Bands}
 use Rattle.detector.specs.declared.FeatureDetector.{FeatureDetector}
-use Rattle.detector.specs.Filters.{states_of, handed_of, kept_of, keep_of}
+use Rattle.sequence.specs.Latest.{keep_of}
+use Rattle.detector.specs.Filters.{states_of, handed_of, kept_of}
 use Rattle.detector.specs.Floor.{floor_of}
 use Rattle.detector.specs.Modulation.{modulation_of}
 use Rattle.detector.specs.Voicing.{voicing_of}

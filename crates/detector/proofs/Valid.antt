@@ -1,5 +1,5 @@
 -- A fresh detector is valid, and a frame whose numbers are all finite leaves a valid detector.
-use Rattle.sequence.specs.Latest.{push_of, zeros}
+use Rattle.sequence.specs.Latest.{blanks, keep_of, push_of}
 use Rattle.std.proofs.Common.{◌≡◌, ℕ, zero, suc, ◌<◌, Bool, true, false, T, eqb, ltb, List, [], ◌∷◌, length, get_or, refl, arith, ltb-true, Option, Some, None}
 use mathlib.Core.List.{foldl}
 use lib.Ieee.{Float, nan, binary32, binary64, fits, lt, of_bits}
@@ -18,7 +18,7 @@ use Rattle.detector.specs.declared.floor.Floor.{Floor}
 use Rattle.detector.specs.declared.floor.Floored.{Floored}
 use Rattle.detector.specs.declared.FeatureDetector.{FeatureDetector}
 use Rattle.detector.specs.Steps.{silence_db, db_of}
-use Rattle.detector.specs.Filters.{begun, states_of, step_of, run_of, outputs_of, samples_of, no_decimated, kept_of, keep_of}
+use Rattle.detector.specs.Filters.{begun, states_of, step_of, run_of, outputs_of, samples_of, kept_of}
 use Rattle.detector.specs.Floor.{smoothed_of, window_min_of, next_of, stored_of, floor_of}
 use Rattle.detector.specs.Modulation.{modulation_of}
 use Rattle.detector.specs.Detector.{fresh_of, powers_of, finish_of, frame_of}
@@ -102,7 +102,7 @@ unfolding of_bits fits
 zero-num = (tt, tt)
 
 pub fresh_valid : Valid fresh_of
-unfolding no_decimated zeros
+unfolding blanks
 fresh_valid = record {
   filters = record {
     high_pass = record { z1 = zero-num; z2 = zero-num };

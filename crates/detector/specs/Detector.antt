@@ -1,6 +1,6 @@
 -- One frame of the detector, on the port's record: for 480 samples the Rust's `FeatureDetector::frame`. Missing samples count as 0, and further
 -- ones aren't heard; the Rust takes any number of them.
-use Rattle.sequence.specs.Latest.{no_values}
+use Rattle.sequence.specs.Latest.{no_values, keep_of}
 use Rattle.std.specs.Prelude.{Bool, cond, ◌&&◌, List, [], ◌∷◌, from_bits, Float}
 use Rattle.std.specs.Float.{binary64}
 use Rattle.std.specs.Float.Ieee.{lt}
@@ -11,7 +11,6 @@ use Rattle.float.specs.AllFinite.{all_finite}
 use Rattle.level.specs.Bs1770.{frame_length}
 use Rattle.detector.specs.declared.filters.Filters.{Filters}
 use Rattle.detector.specs.declared.filters.Bands.{Bands}
-use Rattle.detector.specs.declared.filters.Decimated.{Decimated}
 use Rattle.detector.specs.declared.floor.Floored.{Floored}
 use Rattle.detector.specs.declared.modulation.Modulated.{Modulated}
 use Rattle.detector.specs.declared.voicing.Voicing.{Voicing}
@@ -21,7 +20,7 @@ use Rattle.detector.specs.declared.Frame.{Frame}
 use Rattle.detector.specs.declared.FeatureDetector.{FeatureDetector}
 use Rattle.detector.specs.declared.Heard.{Heard}
 use Rattle.detector.specs.Steps.{smoothstep_of, db_of}
-use Rattle.detector.specs.Filters.{samples_of, all_at_rest, begun, states_of, run_of, outputs_of, fresh_decimated, handed_of, kept_of, keep_of}
+use Rattle.detector.specs.Filters.{samples_of, all_at_rest, begun, states_of, run_of, outputs_of, Decimated, fresh_decimated, handed_of, kept_of}
 use Rattle.detector.specs.Floor.{fresh_floor, floor_of}
 use Rattle.detector.specs.Modulation.{modulation_of}
 use Rattle.detector.specs.Voicing.{voicing_of}
@@ -33,7 +32,7 @@ fresh_of = record {
   filters = all_at_rest;
   decimated = fresh_decimated;
   floor = fresh_floor;
-  history = no_values 40;
+  history = no_values 40 zero64;
 }
 
 -- ---- the probability

@@ -1,5 +1,5 @@
 -- The correlations of eight lags, which are computed side by side to save time. No meaning rests on them.
-use Rattle.std.specs.Prelude.{◌≡◌, ℕ, ◌+◌, List, drop, Float}
+use Rattle.std.specs.Prelude.{◌≡◌, ℕ, ◌+◌, List, [], ◌∷◌, drop, Float}
 use Rattle.float.specs.Arithmetic.{zero64}
 use Rattle.detector.specs.declared.voicing.Eight.{Eight}
 use Rattle.detector.specs.Voicing.{products_from, correlation_of}
@@ -18,13 +18,15 @@ pub record Left (x : List Float) (lag i : ℕ) (r : Eight) : Type 0 where
   pub left6 : products_from r.s6 (drop i x) (drop (i + (lag + 6)) x) ≡ correlation_of x (lag + 6)
   pub left7 : products_from r.s7 (drop i x) (drop (i + (lag + 7)) x) ≡ correlation_of x (lag + 7)
 
--- the correlations of the lags from lag on
-pub record Correlations (x : List Float) (lag : ℕ) (r : Eight) : Type 0 where
-  pub at0 : r.s0 ≡ correlation_of x lag
-  pub at1 : r.s1 ≡ correlation_of x (lag + 1)
-  pub at2 : r.s2 ≡ correlation_of x (lag + 2)
-  pub at3 : r.s3 ≡ correlation_of x (lag + 3)
-  pub at4 : r.s4 ≡ correlation_of x (lag + 4)
-  pub at5 : r.s5 ≡ correlation_of x (lag + 5)
-  pub at6 : r.s6 ≡ correlation_of x (lag + 6)
-  pub at7 : r.s7 ≡ correlation_of x (lag + 7)
+-- the correlations of the eight lags from lag on
+abbrev pub eight_of : List Float → ℕ → List Float
+eight_of x lag =
+    correlation_of x lag
+    ∷ correlation_of x (lag + 1)
+    ∷ correlation_of x (lag + 2)
+    ∷ correlation_of x (lag + 3)
+    ∷ correlation_of x (lag + 4)
+    ∷ correlation_of x (lag + 5)
+    ∷ correlation_of x (lag + 6)
+    ∷ correlation_of x (lag + 7)
+    ∷ []

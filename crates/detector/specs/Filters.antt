@@ -1,17 +1,18 @@
 -- The detector's filters over the samples of a frame, and the values of the pitch filter that are kept.
-use Rattle.std.specs.Prelude.{ℕ, zero, suc, List, [], ◌∷◌, map, length, take, drop, replicate, from_bits, slice_index_or, Float}
+use Rattle.std.specs.Prelude.{ℕ, zero, suc, List, [], ◌∷◌, map, take, drop, replicate, from_bits, slice_index_or, Float}
 use mathlib.Core.List.{foldl}
 use Rattle.std.specs.Float.{nan, binary32}
 use Rattle.biquad.specs.Tick.{at_rest, tick_of}
 use Rattle.biquad.specs.declared.Ticked.{Ticked}
 use Rattle.biquad.specs.Sections.{band_high_pass, band_low_pass, pitch1, pitch2}
 use Rattle.narrow.specs.Narrow.{narrow_of}
-use Rattle.sequence.specs.History.{laid, count_after, places_after}
+use Rattle.sequence.specs.History.{laid}
+use Rattle.sequence.specs.Latest.{no_values}
+use Rattle.sequence.specs.declared.Latest.{Latest}
 use Rattle.float.specs.Arithmetic.{◌⊕◌, ◌⊗◌, zero64}
 use Rattle.level.specs.Bs1770.{frame_length}
 use Rattle.detector.specs.declared.filters.Filters.{Filters}
 use Rattle.detector.specs.declared.filters.Bands.{Bands}
-use Rattle.detector.specs.declared.filters.Decimated.{Decimated}
 
 -- the 480 samples of a frame: missing ones count as 0, and further ones aren't heard
 unfoldable pub no_samples : List Float
@@ -67,11 +68,11 @@ outputs_of s (x ∷ xs) = (step_of s x).pitch ∷ outputs_of (step_of s x) xs
 
 -- ---- the outputs that are kept
 
-unfoldable pub no_decimated : List Float
-no_decimated = replicate 240 (from_bits binary32 0)
+abbrev pub Decimated : Type 0
+Decimated = Latest Float 240
 
 abbrev pub fresh_decimated : Decimated
-fresh_decimated = record { count = 0; list = no_decimated }
+fresh_decimated = no_values 240 (from_bits binary32 0)
 
 -- every eighth value, n of them
 unfoldable pub eighths : ℕ → List Float → List Float
@@ -84,7 +85,3 @@ handed_of ys = eighths 60 ys
 
 unfoldable pub kept_of : List Float → List Float
 kept_of ys = map narrow_of (handed_of ys)
-
--- with the values of a frame: the latest 240
-unfoldable pub keep_of : Decimated → List Float → Decimated
-keep_of d ys = record { count = count_after 240 d.count (length ys); list = places_after d.count d.list ys }

@@ -5,13 +5,13 @@ use Rattle.std.specs.Prelude.{◌+◌, Bool, true, false, cond, ◌==◌, from_b
 use Rattle.std.specs.Float.{binary64}
 use Rattle.float.specs.Choice.{min_of}
 use Rattle.sequence.specs.History.{held}
-use Rattle.float.specs.Arithmetic.{◌⊕◌, ◌⊖◌, ◌⊗◌, zero64}
+use Rattle.float.specs.Arithmetic.{zero64, toward}
 use Rattle.detector.specs.declared.floor.Floor.{Floor}
 use Rattle.detector.specs.declared.floor.Floored.{Floored}
 
 abbrev pub fresh_floor : Floor
 fresh_floor =
-    record { smoothed = None; window_min = zero64; window_frames = 0; minima = no_values 8 }
+    record { smoothed = None; window_min = zero64; window_frames = 0; minima = no_values 8 zero64 }
 
 -- 0.3
 abbrev pub smoothing : Float
@@ -19,14 +19,14 @@ smoothing = from_bits binary64 0x3fd3333333333333
 
 unfoldable pub smoothed_of : Option Float → Float → Float
 smoothed_of None e = e
-smoothed_of (Some s) e = s ⊕ smoothing ⊗ (e ⊖ s)
+smoothed_of (Some s) e = toward s e smoothing
 
 -- the least of the window's values, with s
 unfoldable pub window_min_of : Floor → Float → Float
 window_min_of f s = cond (f.window_frames == 0) s (min_of f.window_min s)
 
 -- the least of m and of the minima of earlier windows
-abbrev pub least_of : Float → Latest 8 → Float
+abbrev pub least_of : Float → Latest Float 8 → Float
 least_of m l = fold min_of m (held l.count l.list)
 
 -- with this frame the window of 25 is still open, or it is full: its minimum is kept, and a window begins

@@ -22,9 +22,9 @@ mean_of xs = total_of xs ⊘ whole (length xs)
 unfoldable pub variance_of : List Float → Float
 variance_of xs = deviations_of (mean_of xs) xs ⊘ whole (length xs)
 
-abbrev pub modulated_of : Latest 40 → Modulated
+abbrev pub modulated_of : Latest Float 40 → Modulated
 modulated_of h =
     record { next = h; variance = variance_of (held h.count h.list); modulation = sqrt_of (variance_of (held h.count h.list)) }
 
-unfoldable pub modulation_of : Latest 40 → Float → Modulated
+unfoldable pub modulation_of : Latest Float 40 → Float → Modulated
 modulation_of h e = modulated_of (push_of h e)

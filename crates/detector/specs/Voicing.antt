@@ -19,20 +19,22 @@ tenth = from_bits binary64 0x3fb999999999999a
 
 -- ---- sums, in order
 
--- the sum so far, and the squares of a list
+-- one square more
 abbrev pub squared : Float → Float → Float
 squared s v = s ⊕ v ⊗ v
 
+-- the sum so far, and the squares of a list
 unfoldable pub energy_from : Float → List Float → Float
 energy_from s xs = fold squared s xs
 
 abbrev pub energy_of : List Float → Float
 energy_of xs = energy_from zero64 xs
 
--- the sum so far, and the products of two lists, as far as both go
+-- one product more
 abbrev pub multiplied : Float → Float × Float → Float
 multiplied s p = s ⊕ p.0 ⊗ p.1
 
+-- the sum so far, and the products of two lists, as far as both go
 unfoldable pub products_from : Float → List Float → List Float → Float
 products_from s xs ys = fold multiplied s (zip xs ys)
 

@@ -11,14 +11,13 @@ ghost use Rattle.detector.specs.Filters.{
   step_of,
   run_of,
   outputs_of,
-  fresh_decimated,
   kept_of,
-  keep_of,
 };
 ghost use Rattle.detector.specs.Rest.{same_filters, still_of, quiet_of, Quiet};
 
 use biquad::State;
 use level::FRAME;
+use sequence::Latest;
 
 // Of how many outputs of the pitch filter one is kept: 48 kHz become 6 kHz.
 const DECIMATE: usize = 8;
@@ -88,7 +87,7 @@ impl Filters {
         float::all_finite(&numbers)
     }
 
-    // Whether both are surely the same: every number has the same bits and is no NaN.
+    // Whether both are surely the same: every number has the same bits and is no NaN. No `==`, for the reason at `float::same`.
     fn same(self, other: Filters) -> bool
         ensures { (result ≡ same_filters self other) × (T result → self ≡ other) }
     {
@@ -158,7 +157,8 @@ impl Bands {
         self.run(xs, out)
     }
 
-    // The samples xs, and the pitch filter's output for each in `out`, as far as both go.
+    // The samples xs, and the pitch filter's output for each in `out`, as far as both go. By index, here and below: after a loop over `iter_mut().zip`
+    // nothing is known of what it wrote.
     pub fn run(mut self, xs: &[f64], out: &mut [f64]) -> Bands
         ensures { (result ≡ run_of self (take (length out.old) xs.now))
             × (out.new ≡ laid (outputs_of self (take (length out.old) xs.now)) out.old) }
@@ -176,59 +176,18 @@ pub fn samples(xs: &[f32], to: &mut [f64])
     ensures { to.new ≡ laid (take (length to.old) xs.now) to.old }
 {
     for i in 0..to.len().min(xs.len()) {
-        to[i] = std::num::f32_to_f64_with_nan(xs[i]);
+        to[i] = f64::from(xs[i]);
     }
 }
 
-// Of every eighth output of the pitch filter, as f32, the latest 240, oldest first; the places after them are 0.
-#[derive(Clone, Copy)]
-pub struct Decimated {
-    pub count: usize,
-    pub list: [f32; PITCH_WINDOW],
-}
-
-impl Decimated {
-    // No value yet.
-    #[tactic(auto, unfolding(crate::specs::Filters::no_decimated))]
-    pub fn new() -> Self
-        ensures { result ≡ fresh_decimated }
-    {
-        Self {
-            count: 0,
-            list: [0.0f32; PITCH_WINDOW],
-        }
-    }
-
-    // The values of a frame more; the oldest go where there is no room.
-    pub fn keep(self, ys: [f32; KEPT]) -> Decimated
-        ensures { result ≡ keep_of self ys }
-    {
-        let mut list = self.list;
-        let n = self.count.min(PITCH_WINDOW);
-        if n <= PITCH_WINDOW - KEPT {
-            list[n..n + KEPT].copy_from_slice(&ys);
-            return Decimated {
-                count: n + KEPT,
-                list,
-            };
-        }
-        list.copy_within(n - (PITCH_WINDOW - KEPT).., 0);
-        list[PITCH_WINDOW - KEPT..].copy_from_slice(&ys);
-        Decimated {
-            count: PITCH_WINDOW,
-            list,
-        }
-    }
-}
+// Of every eighth output of the pitch filter, as f32, the latest 240.
+pub type Decimated = Latest<f32, PITCH_WINDOW>;
 
 // The value at a place, and NaN past the end.
 fn output(ys: &[f64], at: usize) -> f64
     ensures { result ≡ slice_index_or ys.now at nan }
 {
-    match ys.get(at) {
-        Some(y) => *y,
-        None => f64::NAN,
-    }
+    ys.get(at).copied().unwrap_or(f64::NAN)
 }
 
 // Every eighth output of a frame, the last of each eight, as f32.

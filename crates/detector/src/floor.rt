@@ -1,6 +1,6 @@
 // The noise floor by minimum statistics: the least smoothed band power of the open window and of the 8 full ones before it, each of 25 frames.
 ghost use Rattle.std.specs.Prelude.{◌≡◌};
-ghost use Rattle.detector.specs.Floor.{smoothed_of, window_min_of, fresh_floor, stored_of, floor_of};
+ghost use Rattle.detector.specs.Floor.{window_min_of, fresh_floor, stored_of, floor_of};
 
 use sequence::Latest;
 
@@ -14,13 +14,14 @@ const FLOOR_WINDOWS: usize = 8;
 const SMOOTHING: f64 = 0.3;
 
 // What the noise floor is read from: the smoothed power, dB (none before the first frame), the minimum and the frames (0 to 24) of the open window,
-// and the minima of those before it. The minimum of an empty window is 0 and isn't looked at.
+// and the minima of those before it. The minimum of an empty window is 0 and isn't looked at. It is no Option: an image has a word for the minimum and
+// one for the frames, each with a rule of its own, and states are compared by both.
 #[derive(Clone, Copy)]
 pub struct Floor {
     pub smoothed: Option<f64>,
     pub window_min: f64,
     pub window_frames: usize,
-    pub minima: Latest<FLOOR_WINDOWS>,
+    pub minima: Latest<f64, FLOOR_WINDOWS>,
 }
 
 // The floor after a frame, what it reads, dB, and what the frame stores: the smoothed power and the window's minimum with it.
@@ -32,17 +33,6 @@ pub struct Floored {
     pub least: f64,
 }
 
-// The smoothed band power with e, dB.
-#[tactic(auto, unfolding(crate::specs::Floor::smoothed_of))]
-fn smooth(old: Option<f64>, e: f64) -> f64
-    ensures { result ≡ smoothed_of old e }
-{
-    match old {
-        Some(s) => s + SMOOTHING * (e - s),
-        None => e,
-    }
-}
-
 impl Floor {
     // Before the first frame.
     pub fn new() -> Self
@@ -52,7 +42,7 @@ impl Floor {
             smoothed: None,
             window_min: 0.0,
             window_frames: 0,
-            minima: Latest::new(),
+            minima: Latest::new(0.0),
         }
     }
 
@@ -88,11 +78,11 @@ impl Floor {
     }
 
     // The noise floor with this frame's band power e, dB.
-    #[tactic(auto, unfolding(crate::specs::Floor::floor_of))]
+    #[tactic(auto, unfolding(crate::specs::Floor::floor_of, crate::specs::Floor::smoothed_of))]
     pub fn floor(self, e: f64) -> Floored
         ensures { result ≡ floor_of self e }
     {
-        let s = smooth(self.smoothed, e);
+        let s = self.smoothed.map_or(e, |s| float::toward(s, e, SMOOTHING));
         let m = self.window_least(s);
         let earlier = self.minima.held();
         Floored {

@@ -37,7 +37,8 @@ pub fn smoothstep(x: f64, lo: f64, hi: f64) -> f64
     t * t * (3.0 - 2.0 * t)
 }
 
-// dB of a power, at the silence floor for none.
+// dB of a power, at the silence floor for none. As `level::lufs`, with another floor and no offset: a common function would add 0.0, an operation that
+// the definition doesn't have.
 #[tactic(auto, unfolding(crate::specs::Steps::db_of))]
 pub fn db(power: f64) -> f64
     ensures { result ≡ db_of power }
@@ -79,7 +80,7 @@ pub struct FeatureDetector {
     pub filters: Filters,
     pub decimated: Decimated,
     pub floor: Floor,
-    pub history: Latest<MODULATION_FRAMES>,
+    pub history: Latest<f64, MODULATION_FRAMES>,
 }
 
 // The detector after a frame, what it saw, and whether every number that is stored, or handed to the logarithm, the root or the narrowing, is finite.
@@ -123,7 +124,7 @@ impl Bands {
     }
 }
 
-// What the detector shows of a frame.
+// What the detector shows of a frame. What was measured goes one by one, here and below: a struct of it would be made and taken apart, histories and all.
 #[tactic(auto, unfolding(crate::specs::Detector::shown_of))]
 fn shown(powers: FramePowers, floored: Floored, modulated: Modulated, voicing: Voicing) -> Frame
     ensures { result ≡ shown_of powers floored modulated voicing }
@@ -172,9 +173,9 @@ impl FeatureDetector {
     {
         Self {
             filters: Filters::new(),
-            decimated: Decimated::new(),
+            decimated: Decimated::new(0.0),
             floor: Floor::new(),
-            history: Latest::new(),
+            history: Latest::new(0.0),
         }
     }
 
@@ -184,10 +185,10 @@ impl FeatureDetector {
     {
         let powers = bands.powers();
         let values = filters::decimate(ys);
-        let decimated = self.decimated.keep(values);
+        let decimated = self.decimated.keep(&values);
         let floored = self.floor.floor(powers.e);
         let modulated = modulation_with(self.history, powers.e);
-        let voicing = decimated.voicing();
+        let voicing = Voicing::of(decimated);
         let frame = shown(powers, floored, modulated, voicing);
         Heard {
             detector: FeatureDetector {

@@ -10,7 +10,7 @@ pub const MODULATION_FRAMES: usize = 40;
 // The band powers of the latest 40 frames, dB, after a frame, their variance, and their standard deviation, dB.
 #[derive(Clone, Copy)]
 pub struct Modulated {
-    pub next: Latest<MODULATION_FRAMES>,
+    pub next: Latest<f64, MODULATION_FRAMES>,
     pub variance: f64,
     pub modulation: f64,
 }
@@ -31,7 +31,7 @@ fn variance(xs: &[f64]) -> f64
 
 // The standard deviation of the band power over the last 400 ms, from its history, with e.
 #[tactic(auto, unfolding(crate::specs::Modulation::modulation_of))]
-pub fn modulation_with(history: Latest<MODULATION_FRAMES>, e: f64) -> Modulated
+pub fn modulation_with(history: Latest<f64, MODULATION_FRAMES>, e: f64) -> Modulated
     ensures { result ≡ modulation_of history e }
 {
     let next = history.push(e);

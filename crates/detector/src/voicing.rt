@@ -1,5 +1,5 @@
 // The voicing: the largest and the smallest normalised autocorrelation of the kept values for the lags of a pitch period.
-ghost use Rattle.std.specs.Prelude.{◌≡◌, ℕ, ◌+◌, ◌<◌, ◌≤◌, length, drop, slice_index_or};
+ghost use Rattle.std.specs.Prelude.{◌≡◌, ℕ, ◌+◌, ◌<◌, ◌≤◌, length, drop, slice_index_or, flat_map};
 ghost use Rattle.std.specs.Float.{nan};
 ghost use Rattle.sequence.specs.History.{held};
 ghost use Rattle.detector.specs.Voicing.{
@@ -13,7 +13,7 @@ ghost use Rattle.detector.specs.Voicing.{
   window_of,
   voicing_of,
 };
-ghost use Rattle.detector.specs.EightLags.{none_summed, Left, Correlations};
+ghost use Rattle.detector.specs.EightLags.{none_summed, Left, eight_of};
 
 use super::filters::{Decimated, PITCH_WINDOW};
 
@@ -22,8 +22,8 @@ const LAG_MIN: usize = 15;
 
 const LAG_MAX: usize = 75;
 
-// The lags whose correlations are computed: whole eights, of which the first 61 are used.
-const LAGS: usize = 64;
+// The lags whose correlations are computed: eight times eight, of which the first 61 are used.
+const EIGHTS: usize = 8;
 
 // Half a window, whose energy is compared with the other half's.
 const HALF: usize = PITCH_WINDOW / 2;
@@ -39,7 +39,7 @@ const EVEN: f64 = 0.1;
 
 // At a lag: the energies of the window without its last values (head) and without its first (tail), as many as the lag has; the largest and the
 // smallest normalised autocorrelation so far; and whether every number that went to the root was finite. The flag stands beside the values, here and
-// below, since they are promised whatever it says.
+// below, since refusal 4 tests it with the numbers of both strands.
 #[derive(Clone, Copy)]
 pub struct Ends {
     pub head: f64,
@@ -137,30 +137,30 @@ impl Eight {
         }
     }
 
-    // The products of x[i] and on that only the shorter lags have, one lag after the other.
-    fn rest(self, x: &[f64], i: usize, lag: usize) -> Eight
+    // The sums, in order, with the products of x[i] and on that only the shorter lags have, one lag after the other.
+    fn rest(self, x: &[f64], i: usize, lag: usize) -> [f64; 8]
         requires { i + lag + 7 ≡ length x.now }
-        ensures { Left x.now lag i self → Correlations x.now lag result }
+        ensures { Left x.now lag i self → result ≡ eight_of x.now lag }
     {
         let ahead = &x[i..];
-        Eight {
-            s0: products(self.s0, ahead, &x[i + lag..]),
-            s1: products(self.s1, ahead, &x[i + lag + 1..]),
-            s2: products(self.s2, ahead, &x[i + lag + 2..]),
-            s3: products(self.s3, ahead, &x[i + lag + 3..]),
-            s4: products(self.s4, ahead, &x[i + lag + 4..]),
-            s5: products(self.s5, ahead, &x[i + lag + 5..]),
-            s6: products(self.s6, ahead, &x[i + lag + 6..]),
-            s7: self.s7,
-        }
+        [
+            products(self.s0, ahead, &x[i + lag..]),
+            products(self.s1, ahead, &x[i + lag + 1..]),
+            products(self.s2, ahead, &x[i + lag + 2..]),
+            products(self.s3, ahead, &x[i + lag + 3..]),
+            products(self.s4, ahead, &x[i + lag + 4..]),
+            products(self.s5, ahead, &x[i + lag + 5..]),
+            products(self.s6, ahead, &x[i + lag + 6..]),
+            self.s7,
+        ]
     }
 }
 
 // The correlations for the lags lag to lag + 7 in one loop, of which the processor computes two at once. The loop goes as far as the longest lag
-// does.
-fn eight_lags(x: &[f64], lag: usize) -> Eight
+// does, by index: of x it reads place i and the eight from i + lag on.
+fn eight_lags(x: &[f64], lag: usize) -> [f64; 8]
     requires { lag + 7 ≤ length x.now }
-    ensures { Correlations x.now lag result }
+    ensures { result ≡ eight_of x.now lag }
 {
     let n = x.len() - lag - 7;
     let mut e = Eight::new();
@@ -170,22 +170,13 @@ fn eight_lags(x: &[f64], lag: usize) -> Eight
     e.rest(x, n, lag)
 }
 
-// The correlations for the lags 15 to 78; those to 75 are used.
-fn correlations(x: &[f64; PITCH_WINDOW]) -> [f64; LAGS]
-    ensures { (k : ℕ) → k < 64 → slice_index_or result k nan ≡ correlation_of x.now (k + 15) }
+// The correlations for the lags 15 to 78, in eights; those to 75 are used.
+fn correlations(x: &[f64; PITCH_WINDOW]) -> [[f64; 8]; EIGHTS]
+    ensures { (k : ℕ) → k < 64 → slice_index_or (flat_map (λ e. e) result) k nan ≡ correlation_of x.now (k + 15) }
 {
-    let mut t = [0.0; LAGS];
-    for eight in 0..LAGS / 8 {
-        let k = 8 * eight;
-        let g = eight_lags(x, k + LAG_MIN);
-        t[k] = g.s0;
-        t[k + 1] = g.s1;
-        t[k + 2] = g.s2;
-        t[k + 3] = g.s3;
-        t[k + 4] = g.s4;
-        t[k + 5] = g.s5;
-        t[k + 6] = g.s6;
-        t[k + 7] = g.s7;
+    let mut t = [[0.0; 8]; EIGHTS];
+    for (i, sums) in t.iter_mut().enumerate() {
+        *sums = eight_lags(x, 8 * i + LAG_MIN);
     }
     t
 }
@@ -224,11 +215,12 @@ impl Ends {
         self
     }
 
-    // All lags.
+    // All lags. By number, since `at_lag` goes by it too.
     fn lags(mut self, x: &[f64; PITCH_WINDOW]) -> Ends
         ensures { result ≡ lags_of x.now 61 15 self }
     {
-        let sums = correlations(x);
+        let eights = correlations(x);
+        let sums = eights.as_flattened();
         for lag in LAG_MIN..LAG_MAX + 1 {
             let e = self.at_lag(x, lag);
             self = e.turn(sums[lag - LAG_MIN]);
@@ -273,26 +265,26 @@ fn uneven(first: f64, second: f64) -> bool
     (low < TINY) | (low < EVEN * high)
 }
 
-// The same values as f64.
+// The same values as f64, in a loop: `d.map(f64::from)` takes each out of the array as an Option, which makes the detector's frame 5 % longer.
 fn widened(d: [f32; PITCH_WINDOW]) -> [f64; PITCH_WINDOW]
     ensures { result ≡ d }
 {
     let mut v = [0.0; PITCH_WINDOW];
     for (i, y) in v.iter_mut().enumerate() {
-        *y = std::num::f32_to_f64_with_nan(d[i]);
+        *y = f64::from(d[i]);
     }
     v
 }
 
-impl Decimated {
+impl Voicing {
     // The largest and the smallest normalised autocorrelation for pitch lags; both 0 while there are fewer than 240 values, and unless the
     // window's halves are within 10 dB (an onset or an end in the window makes any sound look periodic).
-    pub fn voicing(self) -> Voicing
-        ensures { result ≡ voicing_of (held self.count self.list) }
+    pub fn of(decimated: Decimated) -> Self
+        ensures { result ≡ voicing_of (held decimated.count decimated.list) }
     {
-        if self.count < PITCH_WINDOW {
+        if decimated.count < PITCH_WINDOW {
             return SILENT;
         }
-        window(&widened(self.list))
+        window(&widened(decimated.list))
     }
 }

@@ -1,5 +1,5 @@
 // What `--help` prints.
-use program::output;
+use super::complaints;
 use std::io::Write;
 
 pub fn print(rt: &HostRuntime) {
@@ -46,6 +46,6 @@ pub fn print(rt: &HostRuntime) {
           whose reader is gone ends the program without a word.\n",
     );
     if let Err(why) = written {
-        output::complain(&why, &mut rt.stderr(), b"duckline");
+        complaints(rt).unwritten(&why);
     }
 }

@@ -9,9 +9,10 @@ use beds::Bed;
 use frame_bytes::BUFFER;
 use line_text::TEXT;
 use program::arguments::Request;
-use program::{arguments, input, output};
+use program::complaints::Complaints;
+use program::{arguments, input};
 use std::io;
-use std::io::{Stdin, Stdout, Write};
+use std::io::{Stderr, Stdin, Stdout, Write};
 
 // Why the lines end before the input does.
 #[derive(Drop)]
@@ -22,7 +23,7 @@ enum Failure {
     Unwritten(io::Error),
 }
 
-// The lines of all whole frames, and how many bytes are left over.
+// The lines of all whole frames, and how many bytes are left over. Buffer and text are arrays, with counts of what they hold: no heap while it runs.
 fn all_frames(
     bed: Bed,
     from: &mut Stdin,
@@ -32,6 +33,7 @@ fn all_frames(
 ) -> Result<usize, Failure> {
     let mut run = ducklines::fresh_run(bed.layout());
     let mut held: usize = 0;
+    // No `while`: nothing says that the input ends. The count says that the loop does.
     for _ in 0..u64::MAX {
         let count = input::read(from, buffer, held).map_err(Failure::Unread)?;
         if count == 0 {
@@ -54,12 +56,20 @@ fn lines(bed: Bed, from: &mut Stdin, to: &mut Stdout) -> Result<(), Failure> {
     to.write_all(&text[..end]).map_err(Failure::Unwritten)
 }
 
-// The same, and what is said where it fails.
+// What is said on standard error.
+fn complaints(rt: &HostRuntime) -> Complaints<'static, Stderr> {
+    Complaints {
+        errors: rt.stderr(),
+        program: b"duckline",
+    }
+}
+
+// All of the input, and what is said where that fails.
 fn run(rt: &HostRuntime, bed: Bed) {
     match lines(bed, &mut rt.stdin(), &mut rt.stdout()) {
         Ok(()) => {}
-        Err(Failure::Unread(why)) => input::complain(&why, &mut rt.stderr(), b"duckline"),
-        Err(Failure::Unwritten(why)) => output::complain(&why, &mut rt.stderr(), b"duckline"),
+        Err(Failure::Unread(why)) => complaints(rt).unread(&why),
+        Err(Failure::Unwritten(why)) => complaints(rt).unwritten(&why),
     }
 }
 
@@ -68,62 +78,61 @@ fn run(rt: &HostRuntime, bed: Bed) {
 // Bytes that are kept of an argument.
 const WORD: usize = 4096;
 
+// Argument i, of no bytes where there is none.
+fn argument<'a>(rt: &HostRuntime, i: usize, word: &'a mut [u8; WORD]) -> &'a [u8] {
+    arguments::get(rt, i, word).unwrap_or(&[])
+}
+
 // Ends a line of standard error with the names of the beds and the hint at the help.
-fn hint_at_names(rt: &HostRuntime) {
-    let _ = rt.eprint(": mono, stereo, 5.1 or 7.1");
-    arguments::hint(&mut rt.stderr(), b"duckline");
+fn hint_at_names(mut line: Complaints<'static, Stderr>) {
+    line.add(b": mono, stereo, 5.1 or 7.1");
+    line.hint();
 }
 
 // All of the input, with the bed that the second argument names.
 fn run_named(rt: &HostRuntime) {
     let mut word = [0u8; WORD];
-    let n = arguments::get(rt, 2, &mut word);
-    match beds::find(&word[..n]) {
+    let name = argument(rt, 2, &mut word);
+    match beds::find(name) {
         Some(bed) => run(rt, bed),
         None => {
-            arguments::refuse(&mut rt.stderr(), b"duckline", b"unknown bed", &word[..n]);
-            hint_at_names(rt);
+            let mut line = complaints(rt);
+            line.refuse(b"unknown bed", name);
+            hint_at_names(line);
         }
     }
 }
 
 // `--bed` stands alone.
 fn ask_for_a_name(rt: &HostRuntime) {
-    let _ = rt.eprint("duckline: --bed needs a bed");
-    hint_at_names(rt);
+    let mut line = complaints(rt);
+    line.begin(b"--bed needs a bed");
+    hint_at_names(line);
+}
+
+// Refuses an argument.
+fn refuse(rt: &HostRuntime, why: &[u8], word: &[u8]) {
+    let mut line = complaints(rt);
+    line.refuse(why, word);
+    line.hint();
 }
 
 // More than a name follows `--bed`.
 fn refuse_the_third(rt: &HostRuntime) {
     let mut word = [0u8; WORD];
-    let n = arguments::get(rt, 3, &mut word);
-    arguments::refuse(
-        &mut rt.stderr(),
-        b"duckline",
-        b"one argument too many:",
-        &word[..n],
-    );
-    arguments::hint(&mut rt.stderr(), b"duckline");
+    let third = argument(rt, 3, &mut word);
+    refuse(rt, b"one argument too many:", third);
 }
 
 fn main(rt: HostRuntime) {
     let mut word = [0u8; WORD];
-    let n = arguments::get(&rt, 1, &mut word);
-    let request = arguments::asked(arguments::count(&rt), &word[..n], b"--bed");
-    match request {
+    let first = argument(&rt, 1, &mut word);
+    match arguments::asked(arguments::count(&rt), first, b"--bed") {
         Request::Run => run(&rt, Bed::Mono),
         Request::Help => help::print(&rt),
         Request::Option => run_named(&rt),
         Request::OptionAlone => ask_for_a_name(&rt),
         Request::OptionAndMore => refuse_the_third(&rt),
-        Request::Unknown => {
-            arguments::refuse(
-                &mut rt.stderr(),
-                b"duckline",
-                b"unknown argument",
-                &word[..n],
-            );
-            arguments::hint(&mut rt.stderr(), b"duckline");
-        }
+        Request::Unknown => refuse(&rt, b"unknown argument", first),
     }
 }

@@ -2,15 +2,15 @@
 -- asks for.
 use Rattle.std.proofs.Common.{◌≡◌, ℕ, Bool, true, false, cond, ◌&&◌, T, List, length, refl, ap, ap₂, eq-eqb}
 use lib.Ieee.{Float}
+use Rattle.std.specs.Prelude.{Result, Ok, Err}
+use Rattle.refusal.specs.declared.Refusal.{Refusal}
 use Rattle.sequence.specs.History.{filled}
 use Rattle.layout.specs.declared.Layout.{Layout}
 use Rattle.layout.specs.Layout.{size_of, within_of, layout_within, placed_of, stored_of, blanks, mono_of}
 use Rattle.channels.specs.Surround.{resting_of, bed_frame_of}
 use Rattle.vad.specs.Strand as strand
 use Rattle.chain.specs.declared.Chain.{Chain}
-use Rattle.chain.specs.declared.Changed.{Changed}
-use Rattle.chain.specs.declared.Framed.{Framed}
-use Rattle.chain.specs.Chain.{fresh_of, with_bed, bed_length, whole_frame, sound_frame, frame_of, work_of, finite_in, full_in, judged_of, passed_of, refused_of, layout_of}
+use Rattle.chain.specs.Chain.{Framed, Changed, fresh_of, with_bed, bed_length, whole_frame, heard_of, frame_of, work_of, verdict_of, judged_of, passed_of, refused_of, unless_refused, layout_of}
 use Rattle.frame_bytes.specs.Bytes.{bed_samples, key_at, bed_at}
 use Rattle.frame_bytes.proofs.Samples.{samples-length}
 use Rattle.ducklines.specs.Frames.{count_of, fresh_run}
@@ -32,19 +32,17 @@ mono = refl
 
 -- ---- frames
 
--- a choice between two that have a layout
-layout-of : (b : Bool) (l : Layout) (x y : Framed) → x.chain.surround.layout ≡ l → y.chain.surround.layout ≡ l → (cond b x y).chain.surround.layout ≡ l
-layout-of true l x y e f = e
-layout-of false l x y e f = f
+-- a refused frame has the chain's layout
+layout-of : (c : Chain) (v : Result Unit Refusal) (f : Framed) → f.chain.surround.layout ≡ c.surround.layout → (unless_refused c v f).chain.surround.layout ≡ c.surround.layout
+unfolding refused_of
+layout-of c (Ok t) f e = e
+layout-of c (Err r) f e = refl
 
 pub frame-layout : (c : Chain) (key bed : List Float) → (frame_of c key bed).chain.surround.layout ≡ c.surround.layout
 unfolding frame_of judged_of passed_of refused_of work_of bed_frame_of
 frame-layout c key bed =
-    let l = c.surround.layout in
     let w = work_of c key bed in
-    layout-of (whole_frame c key bed) l _ _
-    (layout-of (sound_frame key bed) l _ _ (layout-of (finite_in w) l _ _ (layout-of (full_in w) l _ _ refl refl) refl) refl)
-    refl
+    layout-of c (heard_of c key bed) (judged_of c w) (layout-of c (verdict_of w) (passed_of c w) refl)
 
 -- ---- the samples of a frame
 

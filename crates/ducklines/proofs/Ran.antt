@@ -7,8 +7,7 @@ use Rattle.blocks.specs.Lists.{laid}
 use Rattle.blocks.proofs.Lists.{none_yet, laid_append}
 use Rattle.layout.specs.declared.Layout.{Layout}
 use Rattle.chain.specs.declared.Chain.{Chain}
-use Rattle.chain.specs.declared.Framed.{Framed}
-use Rattle.chain.specs.Chain.{frame_of}
+use Rattle.chain.specs.Chain.{Framed, frame_of}
 use Rattle.frame_bytes.specs.Bytes.{bed_samples, frame_bytes, buffer_bytes, key_at, bed_at, kept_of}
 use Rattle.frame_bytes.proofs.Samples.{bed-first}
 use Rattle.frame_bytes.proofs.Sizes.{frame_least, frame_most}

@@ -9,11 +9,11 @@ ghost use Rattle.line_text.specs.Line.{text_bytes};
 ghost use Rattle.ducklines.specs.Frames.{count_of, fresh_run, frame_in, frames_in, after_read_in};
 
 use chain::{Chain, Framed};
-use frame_bytes::{BED, BUFFER};
+use frame_bytes::{BED, BUFFER, Frame};
 use layout::Layout;
 use line_text::TEXT;
 
-// A chain, the number of the frame that comes next, and the end of the text of the frames before it.
+// A chain, the number of the frame that comes next, and the end of the text of the frames before it, which is lent, for the reason at `line_text`.
 #[derive(Clone, Copy)]
 pub struct Run {
     pub chain: Chain,
@@ -25,10 +25,8 @@ pub struct Run {
 pub fn fresh_run(layout: Layout) -> Run
     ensures { result ≡ fresh_run layout }
 {
-    let c = Chain::new().layout(layout);
-    let chain = c.chain;
     Run {
-        chain,
+        chain: Chain::new().layout(layout).chain,
         number: 1,
         end: 0,
     }
@@ -43,7 +41,8 @@ fn heard(chain: Chain, key: &[f32; level::FRAME], bed: &[f32; BED]) -> Framed
     chain.frame(key, &bed[..n])
 }
 
-// Frame i of the buffer; its line goes behind those of the frames before it. `bed` is lent for the bed's samples.
+// Frame i of the buffer; its line goes behind those of the frames before it. `bed` is lent for the bed's samples. Here and below what is lent stands by
+// itself: the buffer is read, the text written, and the run handed back.
 fn frame(
     run: Run,
     buffer: &[u8; BUFFER],
@@ -54,16 +53,17 @@ fn frame(
     requires { run.end + 64 ≤ text_bytes }
     ensures { record { run = result; bytes = text.new } ≡ frame_in run buffer.now i text.old }
 {
-    let count = run.chain.surround.layout.count;
-    let key = frame_bytes::key(buffer, count, i);
-    frame_bytes::bed(buffer, count, i, bed);
+    let at = Frame {
+        channels: run.chain.surround.layout.count,
+        place: i,
+    };
+    let key = at.key(buffer);
+    at.bed(buffer, bed);
     let f = heard(run.chain, &key, bed);
-    let outcome = f.outcome;
-    let chain = f.chain;
     Run {
-        chain,
+        chain: f.chain,
         number: run.number.wrapping_add(1),
-        end: line_text::frame(text, run.end as u16, run.number, outcome),
+        end: line_text::frame(text, run.end as u16, run.number, f.outcome),
     }
 }
 
@@ -81,7 +81,7 @@ fn frames(run: Run, buffer: &[u8; BUFFER], count: u16, text: &mut [u8; TEXT]) ->
     s
 }
 
-// A run after a read, and how many bytes of the buffer are left.
+// A run after a read, and how many bytes of the buffer are left: an array and a count, since duckline takes no heap while it runs.
 #[derive(Clone, Copy)]
 pub struct Next {
     pub run: Run,
@@ -99,7 +99,11 @@ pub fn after_read(run: Run, buffer: &mut [u8; BUFFER], held: usize, text: &mut [
     let channels = run.chain.surround.layout.count;
     let count = (there / frame_bytes::size(channels)) as u16;
     let next = frames(run, buffer, count, text);
-    let left = frame_bytes::keep(buffer, channels, count, there);
+    let behind = Frame {
+        channels,
+        place: count,
+    };
+    let left = behind.keep(buffer, there);
     Next {
         run: next,
         held: left,

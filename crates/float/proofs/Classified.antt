@@ -1,10 +1,9 @@
 -- What the bits of an f64 tell of its kind, and what its kind tells of it.
-use Rattle.std.proofs.Common.{◌≡◌, ℕ, zero, suc, ◌+◌, ◌-◌, ◌*◌, ◌/◌, ◌%◌, ◌^◌, ◌<◌, ◌≤◌, Bool, true, false, cond, not, T, leb, ℤ, sym, refl, ap, ◌∙◌, subst, ap₂, lt_of_lt_of_le, lt_irrefl, mod-eq_of_lt, zero-lt-suc, lt_of_not-le, zero-add, arith, lit<, lit≤, eq-eqb, ne_eqb, le-leb}
+use Rattle.std.proofs.Common.{◌≡◌, ℕ, zero, suc, ◌+◌, ◌-◌, ◌*◌, ◌/◌, ◌%◌, ◌^◌, ◌<◌, ◌≤◌, Bool, true, false, cond, not, T, leb, ℤ, sym, refl, ap, ◌∙◌, subst, ap₂, lt_of_lt_of_le, lt_irrefl, mod-eq_of_lt, zero-lt-suc, lt_of_not-le, zero-add, arith, lit<, lit≤, true≢false, eq-eqb, ne_eqb, le-leb}
 use native.Mathlib.Decide.{dec_le}
 use native.Mathlib.Nat.{div-eq_of_lt}
 use borrow.Author.Tests.{lt-leb}
-use lib.Ieee.{Float, nan, inf, fin, binary64, size, ne, fits, is_nan, to_bits}
-use lib.Ieee.Compare.{differs_from_itself, nan_differs}
+use lib.Ieee.{Float, nan, inf, fin, binary64, size, fits, is_nan, to_bits}
 use Rattle.float.specs.Units.{units_of}
 use Rattle.float.specs.Kind.{parts, parts_of, kind_of, field_parts}
 use Rattle.float.specs.declared.Parts.{Parts}
@@ -13,19 +12,11 @@ use Rattle.float.proofs.Units.{Split, split}
 
 -- ---- from the bits to the kind
 
--- a value that differs from itself is the NaN
-pub the_nan : (x : Float) → ne x x ≡ true → x ≡ nan
-the_nan x h = differs_from_itself x (subst T (sym h) tt)
-
-pub no_number : (x : Float) → ne x x ≡ true → NotANumber ≡ kind_of x
-unfolding kind_of
-no_number x h = subst (λ (v : Float). NotANumber ≡ kind_of v) (sym (the_nan x h)) refl
-
-pub number : (x : Float) → ne x x ≡ false → T (not (is_nan x))
-unfolding is_nan
-number nan h = absurd (subst T (sym nan_differs ∙ h) tt)
-number (inf s) h = tt
-number (fin s m e) h = tt
+pub no_number : (x : Float) → is_nan x ≡ true → NotANumber ≡ kind_of x
+unfolding kind_of is_nan
+no_number nan h = refl
+no_number (inf s) h = absurd (true≢false (sym h))
+no_number (fin s m e) h = absurd (true≢false (sym h))
 
 -- the sign and what is below it
 abbrev sign : Bool → ℕ

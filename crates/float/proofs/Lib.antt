@@ -3,6 +3,7 @@ pub mod Plus
 pub mod Signs
 pub mod Whole
 pub mod Rounding
+pub mod Finiteness
 pub mod Difference
 pub mod Digits
 pub mod Units

@@ -1,6 +1,6 @@
 -- Which bit patterns are a NaN's: those above the infinity's, the sign taken off. One law over both formats.
 use Rattle.std.proofs.Common.{◌≡◌, ℕ, ◌*◌, ◌%◌, ◌<◌, ◌≤◌, Bool, not, T, sym, refl, ◌∙◌, subst, le-ltb, lt-ltb}
-use lib.Ieee.{Float, nan, inf, fin, Format, binary32, binary64, hid, ones, top, is_nan, nan_bits, of_bits, div}
+use lib.Ieee.{Float, nan, inf, fin, Format, hid, ones, top, is_nan, nan_bits, of_bits}
 use lib.Ieee.Bits.{nan_bits_is, nan_bits_above}
 
 is-nan : (x : Float) → T (is_nan x) → nan ≡ x
@@ -14,9 +14,3 @@ nan_pattern f n h = is-nan (of_bits f n) (subst T (sym (sym (nan_bits_is f n) �
 
 pub no-nan-pattern : (f : Format) (n : ℕ) → n % top f ≤ ones f * hid f → T (not (nan_bits f n))
 no-nan-pattern f n h = subst (λ (t : Bool). T (not t)) (sym (nan_bits_above f n ∙ le-ltb (ones f * hid f) (n % top f) h)) tt
-
--- what the code writes for a NaN
-pub zero_by_zero : (f : Format) → div f (of_bits f 0) (of_bits f 0) ≡ nan
-unfolding div of_bits
-zero_by_zero binary32 = refl
-zero_by_zero binary64 = refl

@@ -1,6 +1,7 @@
--- Values that are all the same, as a loop from the front finds them.
-use Rattle.std.proofs.Common.{◌≡◌, ℕ, suc, ◌+◌, ◌<◌, ◌≤◌, List, ◌∷◌, length, get_or, drop, replicate, sym, refl, subst, add-one, drop_of_length-le, drop-cons}
-use lib.Ieee.{Float, nan}
+-- Values that are all the same, as a loop from the front finds them; and that a number is what its bits stand for.
+use Rattle.std.proofs.Common.{◌≡◌, ℕ, suc, ◌+◌, ◌<◌, List, ◌∷◌, length, get_or, drop, replicate, T, eqb, sym, ap, ◌∙◌, subst, add-one, drop-cons, eqb→eq}
+use lib.Ieee.{Float, nan, binary64, fits, of_bits, to_bits}
+use lib.Ieee.Bits.{of_bits-to_bits}
 
 abbrev pub Same : Float → List Float → Type 0
 Same x ys = ys ≡ replicate (length ys) x
@@ -12,5 +13,9 @@ same_turn x xs i h e s = subst (Same x) (sym (drop-cons xs i nan h)) (both (subs
     both : Same x (drop (suc i) xs) → Same x (get_or xs i nan ∷ drop (suc i) xs)
     both t = λ k. e k ∷ t k
 
-pub same_end : (x : Float) (xs : List Float) (i : ℕ) → length xs ≤ i → Same x (drop i xs)
-same_end x xs i h = subst (Same x) (sym (drop_of_length-le xs h)) refl
+-- a number is what its bits stand for
+pub by_bits : (a b : Float) → T (fits binary64 a) → T (fits binary64 b) → T (eqb (to_bits binary64 a) (to_bits binary64 b)) → a ≡ b
+by_bits a b s t e =
+    sym (of_bits-to_bits binary64 a s)
+    ∙ ap (of_bits binary64) (eqb→eq (to_bits binary64 a) (to_bits binary64 b) e)
+    ∙ of_bits-to_bits binary64 b t

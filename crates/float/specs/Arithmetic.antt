@@ -18,6 +18,10 @@ x ⊗ y = mul binary64 x y
 abbrev pub ◌⊘◌ : Float → Float → Float
 x ⊘ y = div binary64 x y
 
+-- a share of the way from old to x
+abbrev pub toward : Float → Float → Float → Float
+toward old x share = old ⊕ share ⊗ (x ⊖ old)
+
 -- a whole number, to the nearest f64
 abbrev pub whole : ℕ → Float
 whole n = of_int binary64 (pos n)

@@ -1,5 +1,5 @@
 -- The Rust's `round`: to a whole number, half away from zero. Definitions only.
-use Rattle.std.specs.Prelude.{◌≡◌, ℕ, ◌+◌, ◌-◌, ◌*◌, ◌/◌, ◌<◌, ◌≤◌, Bool, false, from_bits, Float}
+use Rattle.std.specs.Prelude.{◌≡◌, ℕ, ◌+◌, ◌-◌, ◌*◌, ◌/◌, ◌<◌, ◌≤◌, Bool, false, Float}
 use Rattle.std.specs.Float.{nan, inf, fin, Format, binary64}
 use Rattle.std.specs.Float.Ieee.{up, down, round}
 use Rattle.std.specs.Float.Ieee.Exact.{HasValue}
@@ -37,9 +37,3 @@ pub record NearestWhole (a c n : ℕ) : Type 0 where
 pub record Rounded (x y : Float) : Type 0 where
   pub number : (s : Bool) (a c : ℕ) → 0 < c → HasValue x s a c → (n : ℕ) × NearestWhole a c n × HasValue y s n 1
   pub other : finite x ≡ false → y ≡ x
-
--- ---- a constant of the code
-
--- 2 ^ 52: from here on an f64 is whole
-abbrev pub limit : Float
-limit = from_bits binary64 0x4330000000000000

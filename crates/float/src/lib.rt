@@ -3,14 +3,13 @@
 
 ghost use Rattle.std.specs.Prelude.{◌≡◌, ◌&&◌, Bool, List, [], ◌∷◌, true, T, length, replicate, if◌then◌else◌, from_bits, to_bits};
 ghost use Rattle.std.specs.Float.{binary32, binary64};
-ghost use Rattle.std.specs.Float.Ieee.{lt};
 ghost use Rattle.std.specs.Float.Ieee.Scale as scale;
 ghost use Rattle.float.specs.Kind.{kind_of, field_parts};
 ghost use Rattle.float.specs.AllFinite.{all_finite, all-none, all-more};
 ghost use Rattle.float.specs.Same.{same_of, all_same};
 ghost use Rattle.float.specs.Choice.{max_of, min_of, clamp_of};
-ghost use Rattle.float.specs.Whole.{limit, round_of, round_to};
-ghost use Rattle.float.specs.Arithmetic.{zero64};
+ghost use Rattle.float.specs.Whole.{round_of, round_to};
+ghost use Rattle.float.specs.Arithmetic.{toward};
 
 // A loudness, LUFS.
 #[derive(Clone, Copy)]
@@ -23,8 +22,8 @@ pub const SILENCE_LUFS: f64 = -100.0;
 #[derive(Clone, Copy)]
 pub struct Db(pub f64);
 
-// A finite value: sig * 2^exp units of 2^-1074, with 53 digits in sig, or fewer where exp is 0. That is `InRange`, and no ghost field: `kind_of` gives
-// parts of values too that no format holds.
+// A finite value: sig * 2^exp units of 2^-1074, with 53 digits in sig, or fewer where exp is 0. `InRange` says its bounds: it is no ghost field, since `kind_of`
+// gives parts too of values that no format holds.
 #[derive(Clone, Copy)]
 pub struct Parts {
     pub negative: bool,
@@ -32,7 +31,7 @@ pub struct Parts {
     pub exp: u64,
 }
 
-// What an f64 is. An infinity is negative where its bool is true.
+// What an f64 is. An infinity is negative where its bool is true: one bool needs no name in each pattern.
 #[derive(Clone, Copy)]
 pub enum Kind {
     NotANumber,
@@ -44,54 +43,34 @@ const SIGN: u64 = 9223372036854775808; // 2^63
 
 const INFINITE: u64 = 9218868437227405312; // 2047 * 2^52
 
-const HIDDEN: u64 = 4503599627370496; // 2^52
+pub const HIDDEN: u64 = 4503599627370496; // 2^52, the digit that an f64 doesn't store
 
-const SIGN32: u32 = 2147483648; // 2^31
-
-const INFINITE32: u32 = 2139095040; // 255 * 2^23
-
-const NOT_A_NUMBER: u64 = 0x7ff8_0000_0000_0000; // the bits that stand for every NaN
-
-const NOT_A_NUMBER32: u32 = 0x7fc0_0000;
-
-// The f64 with these bits. Every NaN's pattern stands for one and the same NaN.
+// The f64 with these bits. Every NaN's pattern stands for one and the same NaN. One function for each width, here and below, as in std.
 pub fn from_bits(bits: u64) -> f64
     ensures { result ≡ from_bits binary64 bits }
 {
-    if INFINITE < bits % SIGN {
-        return 0.0 / 0.0;
-    }
-    f64::from_bits(bits)
+    std::num::f64_from_bits_with_nan(bits)
 }
 
-// The f32 with these bits. A function of its own, as in std: the words and the two patterns differ, so a trait would hold both bodies too.
+// The f32 with these bits, likewise.
 pub fn from_bits32(bits: u32) -> f32
     ensures { result ≡ from_bits binary32 bits }
 {
-    if INFINITE32 < bits % SIGN32 {
-        return 0.0 / 0.0;
-    }
-    f32::from_bits(bits)
+    std::num::f32_from_bits_with_nan(bits)
 }
 
 // The bits of x. Every NaN has the same.
 pub fn to_bits(x: f64) -> u64
     ensures { result ≡ to_bits binary64 x }
 {
-    if x != x {
-        return NOT_A_NUMBER;
-    }
-    f64::to_bits(x)
+    std::num::f64_to_bits_with_nan(x)
 }
 
-// The bits of x. Every NaN has the same. A function of its own, as in std: a trait would hold both bodies too.
+// The bits of x, likewise.
 pub fn to_bits32(x: f32) -> u32
     ensures { result ≡ to_bits binary32 x }
 {
-    if x != x {
-        return NOT_A_NUMBER32;
-    }
-    f32::to_bits(x)
+    std::num::f32_to_bits_with_nan(x)
 }
 
 // The parts that the bits a below the sign stand for.
@@ -119,10 +98,10 @@ fn fields(negative: bool, a: u64) -> Parts
 pub fn classify(x: f64) -> Kind
     ensures { result ≡ kind_of x }
 {
-    if x != x {
+    if x.is_nan() {
         return Kind::NotANumber;
     }
-    let b = f64::to_bits(x);
+    let b = x.to_bits();
     let a = b % SIGN;
     if a == INFINITE {
         return Kind::Infinite(b >= SIGN);
@@ -150,9 +129,9 @@ impl Real for f64 {
 
     ghost all_finite = { all_finite };
 
-    #[tactic(auto, using(crate::proofs::Difference::difference))]
+    #[tactic(auto, using(crate::proofs::Finiteness::is_finite))]
     fn finite(self) -> bool {
-        self - self == 0.0
+        f64::is_finite(self)
     }
 
     ghost none = { all-none };
@@ -165,9 +144,9 @@ impl Real for f32 {
 
     ghost all_finite = { all_finite };
 
-    #[tactic(auto, using(crate::proofs::Difference::difference))]
+    #[tactic(auto, using(crate::proofs::Finiteness::is_finite))]
     fn finite(self) -> bool {
-        self - self == 0.0f32
+        f32::is_finite(self)
     }
 
     ghost none = { all-none };
@@ -193,39 +172,33 @@ pub fn all_finite<T: Real>(v: &[T]) -> bool
     all
 }
 
-// Whether a and b have the same bits; not where one is a NaN.
+// Whether a and b have the same bits; not where one is a NaN. Not `==`, which holds of zeros of both signs.
+#[tactic(auto, unfolding(crate::specs::Same::same_of), using(crate::proofs::Sameness::by_bits))]
 pub fn same(a: f64, b: f64) -> bool
     ensures { (result ≡ same_of a b) × (T result → a ≡ b) }
 {
-    if a != a {
+    if a.is_nan() || b.is_nan() {
         return false;
     }
-    if b != b {
-        return false;
-    }
-    f64::to_bits(a) == f64::to_bits(b)
+    a.to_bits() == b.to_bits()
 }
 
 // Whether every value is the same as x.
 pub fn all_same(x: f64, xs: &[f64]) -> bool
     ensures { (result ≡ all_same x xs.now) × (T result → xs.now ≡ replicate (length xs.now) x) }
 {
-    for y in xs {
-        if !same(*y, x) {
-            return false;
-        }
-    }
-    true
+    xs.iter().all(|y| same(*y, x))
 }
 
-// The first value where the test holds, else the second.
+// The first value where the test holds, else the second. A function, so that a caller's proof has no case for each.
 pub fn pick(c: bool, a: f64, b: f64) -> f64
     ensures { result ≡ (if c then a else b) }
 {
     if c { a } else { b }
 }
 
-// The left, unless the right is strictly greater.
+// The left, unless the right is strictly greater. This, `min` and `clamp` are the Rust's own tests, in its order: std's say otherwise of a NaN and of
+// zeros of both signs, and its `clamp` wants ends in order.
 #[tactic(auto, unfolding(crate::specs::Choice::max_of))]
 pub fn max(a: f64, b: f64) -> f64
     ensures { result ≡ max_of a b }
@@ -255,32 +228,19 @@ pub fn clamp(x: f64, low: f64, high: f64) -> f64
     x
 }
 
-// The whole number nearest to x, of two the upper. What is below 2^52 can be doubled. `round` shows the bounds.
-fn nearest_up(x: f64) -> f64
-    requires { (lt zero64 x ≡ true) × (lt x limit ≡ true) }
-    ensures { result ≡ round_of binary64 x }
+// A share of the way from old to x.
+pub fn toward(old: f64, x: f64, share: f64) -> f64
+    ensures { result ≡ toward old x share }
 {
-    let halves = std::num::truncating_f64_to_u64(x + x);
-    std::num::nearest_u64_to_f64((halves + 1) / 2)
+    old + share * (x - old)
 }
 
-// The whole number nearest to x, half away from zero. From 2^52 on there is nothing but whole numbers.
+// The whole number nearest to x, half away from zero.
+#[tactic(auto, using(crate::proofs::Rounding::as_std))]
 pub fn round(x: f64) -> f64
     ensures { result ≡ round_of binary64 x }
 {
-    if 0.0 < x {
-        if x < 4503599627370496.0 {
-            return nearest_up(x);
-        }
-        return x;
-    }
-    if x < 0.0 {
-        if -4503599627370496.0 < x {
-            return -nearest_up(-x);
-        }
-        return x;
-    }
-    x
+    x.round()
 }
 
 // x to a multiple of 1 / n, half away from zero: n is 10.0 for tenths.

@@ -1,15 +1,17 @@
 -- The samples of some bytes, place by place; and that only their own bytes count.
 use mathlib.Core.Path.{◌≡◌, refl, sym, ap, ◌∙◌}
-use mathlib.Core.List.{List, ◌∷◌, ◌++◌, append-nil}
+use mathlib.Core.List.{List, ◌∷◌, ◌++◌}
 use Prim.Native.Nat.{ℕ, zero, suc, ◌+◌, ◌-◌, ◌*◌, ◌≤◌, ◌<◌, min}
 use native.Mathlib.Nat.{add_assoc, add-zero, zero-add, suc-add, lt_of_not-le}
-use native.Mathlib.Numerals.{add-one}
 use native.Mathlib.Decide.{dec_le}
 use native.Mathlib.Omega.{arith}
 use lib.Ieee.{Float, nan, binary32, of_bits}
 use lib.ListN.{length, take, drop, get_or, set, length-drop, take-append-drop, drop_of_length-le, get_or-append}
-use lib.Seq.{paste, take_all, take_at, drop_at, drop-drop, length-take-le, get_or-drop, paste-suc}
+use lib.Seq.{paste, take_all, take_at, drop_at, drop-drop, length-take-le, get_or-drop}
+use borrow.Rule.Slice.PartMut.{put_mid}
+use Rattle.std.proofs.lemmas.Slice.{put_mid-paste}
 use Rattle.sequence.specs.History.{laid}
+use Rattle.sequence.proofs.Fill.{fill-turn, fill_end}
 use Rattle.blocks.specs.Lists.{table}
 use Rattle.blocks.specs.Words.{word4}
 use Rattle.blocks.proofs.Lists.{length-table, get_d_table, table_ext}
@@ -91,7 +93,8 @@ unfolding samples_at table
 none_yet b i before = refl
 
 pub strand_next : (b : List ℕ) (i c : ℕ) (before x y : List Float) → c * 480 + 480 ≤ length before
-    → x ≡ laid (samples_at b i (c * 480)) before → y ≡ paste x (c * 480) (strand_at b (i + c * 1920)) 480 → y ≡ laid (samples_at b i ((c + 1) * 480)) before
+    → x ≡ laid (samples_at b i (c * 480)) before → y ≡ strand_at b (i + c * 1920)
+    → put_mid (c * 480) (c * 480 + 480 - c * 480) x y ≡ laid (samples_at b i ((c + 1) * 480)) before
 strand_next b i c before x y h e f =
     let m = c * 480 in
     let s = samples_at b i m in
@@ -104,27 +107,24 @@ strand_next b i c before x y h e f =
     ∙ ap (drop 480) (drop_at s (drop (length s) before) m size)
     ∙ drop-drop 480 (length s) before
     ∙ ap (λ (k : ℕ). drop (k + 480) before) size in
-    f
+    put_mid-paste m (m + 480 - m) x y (strand_at b (i + c * 1920)) 480 f (omega arith) (omega (arith, samples-length b (i + c * 1920) 480))
     ∙ ap (λ (k : ℕ). paste x m (strand_at b k) 480) at
     ∙ ap (λ (z : List Float). paste z m t 480) e
     ∙ (λ j. take_at s (drop (length s) before) m size j ++ take_all 480 t (omega (arith, samples-length b (i + 4 * m) 480)) j ++ rest j)
     ∙ (λ j. sym (samples-add b i m 480) j ++ drop (sym (samples-length b i (m + 480)) j) before)
     ∙ ap (λ (k : ℕ). laid (samples_at b i k) before) next
 
--- a sample more of a strand
-pub sample_put : (b : List ℕ) (x y : List Float) (to k : ℕ) (v : Float) → to + 480 ≤ length x → k < 480
-    → y ≡ paste x to (strand_at b 0) k → v ≡ sample_at b (4 * k) → set y (to + k) v ≡ paste x to (strand_at b 0) (k + 1)
-sample_put b x y to k v h g e f =
-    let next : v ≡ get_or (strand_at b 0) k nan = f ∙ ap (sample_at b) (sym (zero-add (4 * k))) ∙ sym (sample-at b 0 480 k g) in
-    (λ j. set (e j) (to + k) (next j))
-    ∙ paste-suc x to (strand_at b 0) k nan (omega arith) (omega (arith, samples-length b 0 480))
-    ∙ ap (paste x to (strand_at b 0)) (sym (add-one k))
+-- ---- samples in all places
 
--- a strand in an array of its own
-pub strand_alone : (b : List ℕ) (i : ℕ) (x : List Float) → length x ≡ 480 → paste x 0 (strand_at b i) 480 ≡ strand_at b i
-strand_alone b i x h =
-    let full : length x ≤ 0 + 480 = omega arith in
-    (λ j. take_all 480 (strand_at b i) (omega (arith, samples-length b i 480)) j ++ drop_of_length-le x full j) ∙ append-nil (strand_at b i)
+-- one more of n
+pub sample_read : (b : List ℕ) (n : ℕ) (x : List Float) (k : ℕ) (v : Float) → length x ≡ n → k < n
+    → take k x ≡ take k (samples_at b 0 n) → v ≡ sample_at b (4 * k) → take (k + 1) (set x k v) ≡ take (k + 1) (samples_at b 0 n)
+sample_read b n x k v h g e f =
+    let next : v ≡ get_or (samples_at b 0 n) k nan = f ∙ ap (sample_at b) (sym (zero-add (4 * k))) ∙ sym (sample-at b 0 n k g) in
+    fill-turn nan x (samples_at b 0 n) v k e next (omega arith) (omega (arith, samples-length b 0 n))
+
+pub samples_read : (b : List ℕ) (n : ℕ) (x : List Float) (k : ℕ) → length x ≡ n → n ≤ k → take k x ≡ take k (samples_at b 0 n) → x ≡ samples_at b 0 n
+samples_read b n x k h g e = fill_end x (samples_at b 0 n) k e (omega arith) (omega (arith, samples-length b 0 n))
 
 pub bed-first : (m : ℕ) (b : List ℕ) (k : ℕ) (before x : List Float) → x ≡ laid (bed_at m b k) before → take (bed_samples m) x ≡ bed_at m b k
 bed-first m b k before x e =

@@ -3,7 +3,6 @@
 #![tactic(auto)]
 
 ghost use Rattle.std.specs.Prelude.{◌≡◌, ◌+◌, ◌-◌, ◌*◌, ◌^◌, ◌≤◌, ◌<◌, length};
-ghost use Rattle.std.proofs.Math.Seq.{paste};
 ghost use Rattle.sequence.specs.History.{laid};
 ghost use Rattle.frame_bytes.specs.Bytes.{bed_samples, frame_bytes, sample_at, samples_at, strand_at, key_at, bed_at, kept_of};
 
@@ -14,13 +13,13 @@ use layout::channel_count;
 const SAMPLES: usize = level::FRAME;
 
 // Bytes of a strand.
-const STRAND: usize = 1920;
+const STRAND: usize = 4 * SAMPLES;
 
 // Samples of a bed of eight channels.
-pub const BED: usize = 3840;
+pub const BED: usize = layout::MOST * SAMPLES;
 
-// Bytes of the buffer.
-pub const BUFFER: usize = 61440;
+// Bytes of the buffer: 16 frames of one channel.
+pub const BUFFER: usize = 32 * STRAND;
 
 // The samples that a frame has of a bed of so many channels.
 #[tactic(auto, unfolding(crate::specs::Bytes::bed_samples))]
@@ -45,74 +44,87 @@ fn sample(bytes: &[u8], at: usize) -> f32
     float::from_bits32(read4(bytes, at))
 }
 
-// Puts the strand at the start of some bytes into the places of x from `to` on, which the caller shows to be there: here and below by a clause on the
-// length, since an array of its own for each strand would be one copy more.
-#[tactic(auto, using(crate::proofs::Samples::sample_put))]
-fn put(bytes: &[u8], to: usize, x: &mut [f32])
-    requires { to + 480 ≤ length x.old }
-    ensures { x.new ≡ paste x.old to (strand_at bytes.now 0) 480 }
+// Puts the samples at the start of some bytes into all places of x.
+#[tactic(auto, using(crate::proofs::Samples::sample_read, crate::proofs::Samples::samples_read))]
+pub fn read_samples(bytes: &[u8], x: &mut [f32])
+    ensures { x.new ≡ samples_at bytes.now 0 (length x.old) }
 {
-    for k in 0..SAMPLES {
-        x[to + k] = sample(bytes, 4 * k);
+    for (k, y) in x.iter_mut().enumerate() {
+        *y = sample(bytes, 4 * k);
     }
 }
 
-// The same for the strand whose first byte is at `first`. Of a part that is as long as a strand the compiler knows that no byte is missing.
+// The strand whose first byte is at `first`, in x. Of a part that is as long as a strand the compiler knows that no byte is missing. x is a slice with
+// a clause on its length, and no array, since `strands` hands on a part of a slice.
 #[tactic(auto, using(crate::proofs::Samples::samples_part, crate::proofs::Samples::samples_tail))]
-fn strand(buffer: &[u8; BUFFER], first: usize, to: usize, x: &mut [f32])
-    requires { to + 480 ≤ length x.old }
-    ensures { x.new ≡ paste x.old to (strand_at buffer.now first) 480 }
+fn strand(buffer: &[u8; BUFFER], first: usize, x: &mut [f32])
+    requires { length x.old ≡ 480 }
+    ensures { x.new ≡ strand_at buffer.now first }
 {
     if first <= BUFFER - STRAND {
-        put(&buffer[first..first + STRAND], to, x);
+        read_samples(&buffer[first..first + STRAND], x);
     } else {
-        put(&buffer[first.min(BUFFER)..], to, x);
+        read_samples(&buffer[first.min(BUFFER)..], x);
     }
 }
 
-// n strands from byte `first` on, in the first places of x; the others stay.
+// n strands from byte `first` on, in the first places of x; the others stay. By place: of a slice whose chunks are lent std doesn't say what it ends as.
 #[tactic(auto, using(crate::proofs::Samples::none_yet, crate::proofs::Samples::strand_next))]
 fn strands(buffer: &[u8; BUFFER], first: usize, n: usize, x: &mut [f32])
     requires { (first < 2 ^ 32) × (n ≤ 8) × (n * 480 ≤ length x.old) }
     ensures { x.new ≡ laid (samples_at buffer.now first (n * 480)) x.old }
 {
     for c in 0..n {
-        strand(buffer, first + c * STRAND, c * SAMPLES, x);
+        let to = c * SAMPLES;
+        strand(buffer, first + c * STRAND, &mut x[to..to + SAMPLES]);
     }
 }
 
-// The key of frame i, counted from 0; the bed has `count` channels.
-#[tactic(auto, using(crate::proofs::Sizes::place_most))]
-pub fn key(buffer: &[u8; BUFFER], count: u64, i: u16) -> [f32; SAMPLES]
-    ensures { result ≡ key_at count buffer.now i }
-{
-    let mut x = [0.0; SAMPLES];
-    strand(buffer, usize::from(i) * size(count), 0, &mut x);
-    x
+// A frame of a buffer: how many channels its bed has, and its place among the frames, from 0.
+#[derive(Clone, Copy)]
+pub struct Frame {
+    pub channels: u64,
+    pub place: u16,
 }
 
-// The bed of frame i, likewise, in the first places of x; the others stay as they are.
-#[tactic(auto, using(crate::proofs::Sizes::place_most), unfolding(crate::specs::Bytes::bed_samples))]
-pub fn bed(buffer: &[u8; BUFFER], count: u64, i: u16, x: &mut [f32; BED])
-    ensures { x.new ≡ laid (bed_at count buffer.now i) x.old }
-{
-    strands(
-        buffer,
-        usize::from(i) * size(count) + STRAND,
-        channel_count(count),
-        x,
-    );
-}
-
-// Of `held` bytes those behind the first i frames are left: moves to the start what the buffer has of them, and answers how many they are.
-#[tactic(auto, using(crate::proofs::Sizes::place_most, crate::proofs::Kept::kept_bytes, crate::proofs::Kept::kept_none), unfolding(crate::specs::Bytes::kept_of))]
-pub fn keep(buffer: &mut [u8], count: u64, i: u16, held: usize) -> usize
-    ensures { record { bytes = buffer.new; held = result } ≡ kept_of count buffer.old i held }
-{
-    let first = usize::from(i) * size(count);
-    let there = held.min(buffer.len());
-    if first < there {
-        buffer.copy_within(first..there, 0);
+impl Frame {
+    // Its first byte.
+    #[tactic(auto, using(crate::proofs::Sizes::place_most))]
+    fn first(self) -> usize
+        ensures first { result ≡ self.place * frame_bytes self.channels }
+        ensures most { result < 2 ^ 31 }
+    {
+        usize::from(self.place) * size(self.channels)
     }
-    held.saturating_sub(first)
+
+    // Its key.
+    pub fn key(self, buffer: &[u8; BUFFER]) -> [f32; SAMPLES]
+        ensures { result ≡ key_at self.channels buffer.now self.place }
+    {
+        let mut x = [0.0; SAMPLES];
+        strand(buffer, self.first(), &mut x);
+        x
+    }
+
+    // Its bed, in the first places of x; the others stay as they are.
+    #[tactic(auto, unfolding(crate::specs::Bytes::bed_samples))]
+    pub fn bed(self, buffer: &[u8; BUFFER], x: &mut [f32; BED])
+        ensures { x.new ≡ laid (bed_at self.channels buffer.now self.place) x.old }
+    {
+        let n = channel_count(self.channels);
+        strands(buffer, self.first() + STRAND, n, x);
+    }
+
+    // Of `held` bytes those from this frame on are left: moves to the start what the buffer has of them, and answers how many they are.
+    #[tactic(auto, using(crate::proofs::Kept::kept_bytes, crate::proofs::Kept::kept_none), unfolding(crate::specs::Bytes::kept_of))]
+    pub fn keep(self, buffer: &mut [u8], held: usize) -> usize
+        ensures { record { bytes = buffer.new; held = result } ≡ kept_of self.channels buffer.old self.place held }
+    {
+        let first = self.first();
+        let there = held.min(buffer.len());
+        if first < there {
+            buffer.copy_within(first..there, 0);
+        }
+        held.saturating_sub(first)
+    }
 }

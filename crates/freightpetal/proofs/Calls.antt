@@ -7,11 +7,9 @@ use Prim.Native.Nat.{ℕ}
 use lib.Ieee.{Float}
 use Rattle.demands.specs.Calls.{event, save, restore, Step}
 use Rattle.chain.specs.declared.Chain.{Chain}
-use Rattle.chain.specs.declared.Changed.{Changed}
-use Rattle.chain.specs.declared.Framed.{Framed}
 use Rattle.settings.specs.declared.Settings.{Settings}
 use Rattle.layout.specs.declared.Layout.{Layout}
-use Rattle.chain.specs.Chain.{frame_of, set_of, reset_of, layout_of}
+use Rattle.chain.specs.Chain.{Framed, Changed, frame_of, set_of, reset_of, layout_of}
 use Rattle.rules.specs.Rules.{HeldStrand, HeldDuck, Asked, frame, settings, reset, layout, Answered, after_frame, after_change}
 use Rattle.image.specs.Image.{save_verdict, saved_in, restore_of}
 use Rattle.image.specs.Port.{port}

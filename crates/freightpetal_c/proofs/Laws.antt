@@ -11,15 +11,13 @@ use native.Mathlib.Omega.{arith}
 use borrow.Author.Tests.{eq-eqb, eqb-true}
 use lib.Ieee.{Float}
 use lib.ListN.{length}
-use Rattle.refusal.specs.Table.{number_of}
+use Rattle.refusal.specs.Table.{number_of, code_of}
 use Rattle.refusal.specs.declared.Refusal.TheVariants.{WrongLength}
 use Rattle.demands.specs.Calls.{Log, empty, ◌▹◌, Call, event, save, restore, Reply, refusal, passed, answer, Step, gets}
 use Rattle.demands.specs.Demands.{from}
 use Rattle.demands.proofs.Demands.{from-valid}
 use Rattle.chain.specs.declared.Chain.{Chain}
-use Rattle.chain.specs.declared.Changed.{Changed}
-use Rattle.chain.specs.declared.Framed.{Framed}
-use Rattle.chain.specs.Chain.{fresh_of, frame_of, changed, unchanged, set_of, reset_of, layout_of}
+use Rattle.chain.specs.Chain.{Framed, Changed, fresh_of, frame_of, changed, unchanged, set_of, reset_of, layout_of}
 use Rattle.rules.specs.Rules.{Event, frame, settings, reset, layout, Answered, rules, refuses, reply_of, noted_of}
 use Rattle.rules.specs.Rules as events
 use Rattle.chain.specs.Valid.{Valid}
@@ -30,7 +28,7 @@ use Rattle.image.specs.Port.{images, port}
 use Rattle.image.specs.Port as images
 use Rattle.image.proofs.Laws.{image-length, image-accepted, meaning_valid, present, restore-accepted, restore-unchanged, restore-image}
 use Rattle.image.proofs.Plug.{all_laws}
-use Rattle.freightpetal_c.specs.Lent.{code_of, open_of, code_in, Answered as Told, heard_in, framed_in, opened_frame, frame_in, saved_as, changed_in, opened_by, change_in, restore_in}
+use Rattle.freightpetal_c.specs.Lent.{open_of, code_in, Answered as Told, heard_in, framed_in, opened_frame, frame_in, saved_as, changed_in, opened_by, change_in, restore_in}
 use Rattle.freightpetal_c.specs.Laws.{left_by, Done, done_by, lent_from, number_in, done_in, words_after, frame_done, chain_from, LentLaws}
 
 -- a save into bytes of the right length writes the image
@@ -69,7 +67,7 @@ stays c e n p = go (refuses c e) refl
 module _ (c : Chain) (v : Valid c) where
   frame_on : (a : List ℕ) (key bed : List Float) → frame_in (image c) a key bed ≡ framed_in (image c) a (frame_of c key bed)
   unfolding frame_in
-  frame_on a key bed = ap (λ (r : Changed). opened_frame (image c) a key bed r.chain r.verdict) (open-image c v)
+  frame_on a key bed = ap (λ (r : Changed). opened_frame (image c) a key bed r.chain r.outcome) (open-image c v)
 
   -- what a frame leaves, by its outcome
   frame-left : (a : List ℕ) (f : Framed) → ((n : ℕ) → reply_of f.outcome ≡ refusal n → f.chain ≡ c)
@@ -80,17 +78,17 @@ module _ (c : Chain) (v : Valid c) where
       go (Ok x) e = (refl, over-image f.chain c v)
       go (Err r) e = (refl, ap image (sym (k (number_of r) (ap reply_of e))))
 
-  change_left : (r : Changed) → ((n : ℕ) → noted_of r.verdict ≡ refusal n → r.chain ≡ c)
-      → ((changed_in (image c) r).code ≡ number_in (noted_of r.verdict)) × ((changed_in (image c) r).bytes ≡ image r.chain)
-  change_left r k = go r.verdict refl
+  change_left : (r : Changed) → ((n : ℕ) → noted_of r.outcome ≡ refusal n → r.chain ≡ c)
+      → ((changed_in (image c) r).code ≡ number_in (noted_of r.outcome)) × ((changed_in (image c) r).bytes ≡ image r.chain)
+  change_left r k = go r.outcome refl
     where
-      go : (o : Result Unit Refusal) → r.verdict ≡ o → ((saved_as (image c) r.chain o).code ≡ number_in (noted_of o)) × ((saved_as (image c) r.chain o).bytes ≡ image r.chain)
+      go : (o : Result Unit Refusal) → r.outcome ≡ o → ((saved_as (image c) r.chain o).code ≡ number_in (noted_of o)) × ((saved_as (image c) r.chain o).bytes ≡ image r.chain)
       go (Ok _) e = (refl, over-image r.chain c v)
       go (Err n) e = (refl, ap image (sym (k (number_of n) (ap noted_of e))))
 
   change_on : (f : Chain → Changed) → change_in (image c) f ≡ changed_in (image c) (f c)
   unfolding change_in
-  change_on f = ap (λ (r : Changed). opened_by (image c) f r.chain r.verdict) (open-image c v)
+  change_on f = ap (λ (r : Changed). opened_by (image c) f r.chain r.outcome) (open-image c v)
 
   left : (e : Event) → ((left_by (image c) e).code ≡ number_in (events.port c e).seen.reply) × ((left_by (image c) e).bytes ≡ image (events.port c e).state)
   left (frame key bed) = rw (frame_on [] key bed) (frame-left [] (frame_of c key bed) (stays c (frame key bed)))
@@ -118,7 +116,7 @@ open-length : (b : List ℕ) → code_in b ≡ 0 → length b ≡ image_bytes
 unfolding open_of
 open-length b z = go (eqb (length b) image_bytes) refl z
   where
-    go : (t : Bool) → eqb (length b) image_bytes ≡ t → code_of (cond t (restore_of fresh_of b) (unchanged fresh_of WrongLength)).verdict ≡ 0 → length b ≡ image_bytes
+    go : (t : Bool) → eqb (length b) image_bytes ≡ t → code_of (cond t (restore_of fresh_of b) (unchanged fresh_of WrongLength)).outcome ≡ 0 → length b ≡ image_bytes
     go true e z = eqb-true (length b) image_bytes e
     go false e z = absurd (omega arith)
 
@@ -126,11 +124,11 @@ open_code : (b : List ℕ) → length b ≡ image_bytes → code_in b ≡ refuse
 unfolding open_of
 open_code b l = rw (eq-eqb (length b) image_bytes l) (go (refuses_image b) refl)
   where
-    go : (n : ℕ) → refuses_image b ≡ n → code_of (restore_of fresh_of b).verdict ≡ refuses_image b
-    go zero z = ap (λ (r : Changed). code_of r.verdict) (restore-accepted b fresh_of z) ∙ sym z
+    go : (n : ℕ) → refuses_image b ≡ n → code_of (restore_of fresh_of b).outcome ≡ refuses_image b
+    go zero z = ap (λ (r : Changed). code_of r.outcome) (restore-accepted b fresh_of z) ∙ sym z
     go (suc n) z =
         let r = restore-unchanged b fresh_of (not-suc z) in
-        ap (λ (r : Changed). code_of r.verdict) r.2 ∙ sym r.1
+        ap (λ (r : Changed). code_of r.outcome) r.2 ∙ sym r.1
 
 image_code : (c : Chain) → Valid c → code_in (image c) ≡ 0
 image_code c v = open_code (image c) (image-length c v) ∙ image-accepted c v
@@ -138,7 +136,7 @@ image_code c v = open_code (image c) (image-length c v) ∙ image-accepted c v
 module _ (b : List ℕ) (n : code_in b ≡ 0 → ⊥) where
   closed-frame : (a : List ℕ) (key bed : List Float) → frame_in b a key bed ≡ record { code = code_in b; bytes = b; words = a }
   unfolding frame_in
-  closed-frame a key bed = go (open_of b).verdict n
+  closed-frame a key bed = go (open_of b).outcome n
     where
       go : (v : Result Unit Refusal) → (code_of v ≡ 0 → ⊥) → opened_frame b a key bed (open_of b).chain v ≡ record { code = code_of v; bytes = b; words = a }
       go (Ok _) k = absurd (k refl)
@@ -146,7 +144,7 @@ module _ (b : List ℕ) (n : code_in b ≡ 0 → ⊥) where
 
   closed_change : (f : Chain → Changed) → change_in b f ≡ record { code = code_in b; bytes = b }
   unfolding change_in
-  closed_change f = go (open_of b).verdict n
+  closed_change f = go (open_of b).outcome n
     where
       go : (v : Result Unit Refusal) → (code_of v ≡ 0 → ⊥) → opened_by b f (open_of b).chain v ≡ record { code = code_of v; bytes = b }
       go (Ok _) k = absurd (k refl)

@@ -8,9 +8,7 @@ use Rattle.refusal.specs.declared.Refusal.{Refusal}
 use Rattle.refusal.specs.Table.{number_of}
 use Rattle.chain.specs.declared.Answer.{Answer}
 use Rattle.chain.specs.declared.Chain.{Chain}
-use Rattle.chain.specs.declared.Changed.{Changed}
-use Rattle.chain.specs.declared.Framed.{Framed}
-use Rattle.chain.specs.Chain.{frame_of}
+use Rattle.chain.specs.Chain.{Framed, Changed, frame_of}
 use Rattle.image.specs.Image.{saved_in}
 use Rattle.words.specs.Words.{answer_words}
 use Rattle.freightpetal_c.specs.Lent.{Left, Answered, open_of, heard_in, framed_in, opened_of, chain_by, opened_frame, frame_in, changed_in, opened_by, change_in}
@@ -31,7 +29,7 @@ module _ (b : List ℕ) where
   module _ (a : List ℕ) (key bed : List Float) where
     pub frame_ok : {d : Chain} {f : Framed} {l : Answered} → Ok d ≡ opened_of b → f ≡ frame_of d key bed → l ≡ framed_in b a f → l ≡ frame_in b a key bed
     unfolding frame_in
-    frame_ok {d = d} {f = f} {l = l} e g h = go (open_of b).chain (open_of b).verdict e
+    frame_ok {d = d} {f = f} {l = l} e g h = go (open_of b).chain (open_of b).outcome e
       where
         go : (c : Chain) (v : Result Unit Refusal) → ◌≡◌ {A = Result Chain Refusal} (Ok d) (chain_by c v) → l ≡ opened_frame b a key bed c v
         go c (Ok _) e = let q : d ≡ c = cc in h ∙ ap (framed_in b a) (g ∙ ap (λ (x : Chain). frame_of x key bed) q)
@@ -39,7 +37,7 @@ module _ (b : List ℕ) where
 
     pub frame_err : {r : Refusal} → Err r ≡ opened_of b → record { code = number_of r; bytes = b; words = a } ≡ frame_in b a key bed
     unfolding frame_in
-    frame_err {r = r} e = go (open_of b).chain (open_of b).verdict e
+    frame_err {r = r} e = go (open_of b).chain (open_of b).outcome e
       where
         go : (c : Chain) (v : Result Unit Refusal) → ◌≡◌ {A = Result Chain Refusal} (Err r) (chain_by c v)
             → ◌≡◌ {A = Answered} (record { code = number_of r; bytes = b; words = a }) (opened_frame b a key bed c v)
@@ -49,7 +47,7 @@ module _ (b : List ℕ) where
   module _ (f : Chain → Changed) where
     pub change_ok : {d : Chain} {r : Changed} {l : Left} → Ok d ≡ opened_of b → r ≡ f d → l ≡ changed_in b r → l ≡ change_in b f
     unfolding change_in
-    change_ok {d = d} {l = l} e g h = go (open_of b).chain (open_of b).verdict e
+    change_ok {d = d} {l = l} e g h = go (open_of b).chain (open_of b).outcome e
       where
         go : (c : Chain) (v : Result Unit Refusal) → ◌≡◌ {A = Result Chain Refusal} (Ok d) (chain_by c v) → l ≡ opened_by b f c v
         go c (Ok _) e = let q : d ≡ c = cc in h ∙ ap (changed_in b) (g ∙ ap f q)
@@ -57,7 +55,7 @@ module _ (b : List ℕ) where
 
     pub change_err : {r : Refusal} → Err r ≡ opened_of b → record { code = number_of r; bytes = b } ≡ change_in b f
     unfolding change_in
-    change_err {r = r} e = go (open_of b).chain (open_of b).verdict e
+    change_err {r = r} e = go (open_of b).chain (open_of b).outcome e
       where
         go : (c : Chain) (v : Result Unit Refusal) → ◌≡◌ {A = Result Chain Refusal} (Err r) (chain_by c v)
             → ◌≡◌ {A = Left} (record { code = number_of r; bytes = b }) (opened_by b f c v)

@@ -3,21 +3,14 @@ use Rattle.chain.specs.declared.Answer.{Answer}
 use Rattle.refusal.specs.declared.Refusal.{Refusal}
 use Rattle.std.specs.Prelude.{cond, List, ℕ, eqb, length, Float, Result, Ok, Err}
 use Rattle.refusal.specs.declared.Refusal.TheVariants.{WrongLength}
-use Rattle.refusal.specs.Table.{number_of}
+use Rattle.refusal.specs.Table.{number_of, code_of}
 use Rattle.layout.specs.declared.Layout.{Layout}
 use Rattle.chain.specs.declared.Chain.{Chain}
-use Rattle.chain.specs.declared.Changed.{Changed}
-use Rattle.chain.specs.declared.Framed.{Framed}
 use Rattle.settings.specs.declared.Settings.{Settings}
-use Rattle.chain.specs.Chain.{fresh_of, frame_of, unchanged, set_of, reset_of, layout_of}
+use Rattle.chain.specs.Chain.{Framed, Changed, fresh_of, frame_of, unchanged, set_of, reset_of, layout_of}
 use Rattle.image.specs.Layout.{image_bytes}
 use Rattle.image.specs.Image.{save_verdict, saved_in, restore_of}
 use Rattle.words.specs.Words.{answer_words}
-
--- the specification's number; 0: passed
-abbrev pub code_of : Result Unit Refusal → ℕ
-code_of (Ok _) = 0
-code_of (Err r) = number_of r
 
 -- a number and the lent bytes after a call
 pub record Left : Type 0 where
@@ -44,10 +37,10 @@ chain_by c (Ok _) = Ok c
 chain_by c (Err r) = Err r
 
 abbrev pub opened_of : List ℕ → Result Chain Refusal
-opened_of b = chain_by (open_of b).chain (open_of b).verdict
+opened_of b = chain_by (open_of b).chain (open_of b).outcome
 
 abbrev pub code_in : List ℕ → ℕ
-code_in b = code_of (open_of b).verdict
+code_in b = code_of (open_of b).outcome
 
 -- ---- a frame
 
@@ -65,7 +58,7 @@ opened_frame b a key bed c (Ok _) = framed_in b a (frame_of c key bed)
 opened_frame b a key bed c (Err r) = record { code = number_of r; bytes = b; words = a }
 
 unfoldable pub frame_in : List ℕ → List ℕ → List Float → List Float → Answered
-frame_in b a key bed = opened_frame b a key bed (open_of b).chain (open_of b).verdict
+frame_in b a key bed = opened_frame b a key bed (open_of b).chain (open_of b).outcome
 
 -- ---- a settings call, a reset and a layout call: what f makes of the chain
 
@@ -74,14 +67,14 @@ saved_as b c (Ok _) = record { code = 0; bytes = saved_in c b }
 saved_as b c (Err r) = record { code = number_of r; bytes = b }
 
 abbrev pub changed_in : List ℕ → Changed → Left
-changed_in b r = saved_as b r.chain r.verdict
+changed_in b r = saved_as b r.chain r.outcome
 
 abbrev pub opened_by : List ℕ → (Chain → Changed) → Chain → Result Unit Refusal → Left
 opened_by b f c (Ok _) = changed_in b (f c)
 opened_by b f c (Err r) = record { code = number_of r; bytes = b }
 
 unfoldable pub change_in : List ℕ → (Chain → Changed) → Left
-change_in b f = opened_by b f (open_of b).chain (open_of b).verdict
+change_in b f = opened_by b f (open_of b).chain (open_of b).outcome
 
 abbrev pub set_in : List ℕ → Settings → Left
 set_in b s = change_in b (λ c. set_of c s)

@@ -4,9 +4,9 @@
 #![tactic(auto)]
 
 ghost use Rattle.std.specs.Prelude.{◌≡◌};
+ghost use Rattle.refusal.specs.Table.{code_of};
 ghost use Rattle.words.specs.Words.{settings_from, layout_from};
 ghost use Rattle.freightpetal_c.specs.Lent.{
-  code_of,
   opened_of,
   fresh_in,
   code_in,
@@ -23,21 +23,11 @@ use layout::Layout;
 use refusal::Refusal;
 use settings::Settings;
 
-// The specification's number of a refusal, and 0 where a call passed.
-fn code(v: Result<(), Refusal>) -> u64
-    ensures { result ≡ code_of v }
-{
-    match v {
-        Ok(()) => 0,
-        Err(refusal) => refusal::number(refusal),
-    }
-}
-
 // A fresh chain. Refusal 6.
 pub fn freightpetal_fresh(image: &mut [u8]) -> u64
     ensures { record { code = result; bytes = image.new } ≡ fresh_in image.old }
 {
-    code(freightpetal::save(freightpetal::new(), image))
+    refusal::code(freightpetal::save(freightpetal::new(), image))
 }
 
 // The chain whose image is lent. Refusal 6 where the bytes aren't as long as a saved image, then 7, 8.
@@ -49,7 +39,7 @@ fn open(image: &[u8]) -> Result<Chain, Refusal>
         return Err(Refusal::WrongLength);
     }
     let c = freightpetal::restore(freightpetal::new(), image);
-    c.verdict?;
+    c.outcome?;
     Ok(c.chain)
 }
 
@@ -58,7 +48,7 @@ fn open(image: &[u8]) -> Result<Chain, Refusal>
 fn keep(image: &mut [u8], c: Changed) -> Result<(), Refusal>
     ensures { record { code = code_of result; bytes = image.new } ≡ changed_in image.old c }
 {
-    c.verdict?;
+    c.outcome?;
     let _ = freightpetal::save(c.chain, image);
     Ok(())
 }
@@ -67,10 +57,7 @@ fn keep(image: &mut [u8], c: Changed) -> Result<(), Refusal>
 pub fn freightpetal_check(image: &[u8]) -> u64
     ensures { result ≡ code_in image.now }
 {
-    match open(image) {
-        Ok(_) => 0,
-        Err(refusal) => refusal::number(refusal),
-    }
+    refusal::code(open(image))
 }
 
 fn frame(image: &mut [u8], key: &[f32], bed: &[f32], answer: &mut [u64; 41]) -> Result<(), Refusal>
@@ -90,9 +77,10 @@ pub fn freightpetal_frame(image: &mut [u8], key: &[f32], bed: &[f32], answer: &m
     ensures { record { code = result; bytes = image.new; words = answer.new }
         ≡ frame_in image.old answer.old key.now bed.now }
 {
-    code(frame(image, key, bed, answer))
+    refusal::code(frame(image, key, bed, answer))
 }
 
+// Here and in the two like it the step stands in the middle: a function that takes it would need what it does as a clause.
 fn set(image: &mut [u8], s: Settings) -> Result<(), Refusal>
     ensures { record { code = code_of result; bytes = image.new } ≡ set_in image.old s }
 {
@@ -104,7 +92,7 @@ fn set(image: &mut [u8], s: Settings) -> Result<(), Refusal>
 pub fn freightpetal_settings(image: &mut [u8], settings: &[u64; 12]) -> u64
     ensures { record { code = result; bytes = image.new } ≡ set_in image.old (settings_from settings.now) }
 {
-    code(set(image, words::settings(settings)))
+    refusal::code(set(image, words::settings(settings)))
 }
 
 fn reset(image: &mut [u8], strand: u64) -> Result<(), Refusal>
@@ -118,7 +106,7 @@ fn reset(image: &mut [u8], strand: u64) -> Result<(), Refusal>
 pub fn freightpetal_reset(image: &mut [u8], strand: u64) -> u64
     ensures { record { code = result; bytes = image.new } ≡ reset_in image.old strand }
 {
-    code(reset(image, strand))
+    refusal::code(reset(image, strand))
 }
 
 fn lay_out(image: &mut [u8], l: Layout) -> Result<(), Refusal>
@@ -132,7 +120,7 @@ fn lay_out(image: &mut [u8], l: Layout) -> Result<(), Refusal>
 pub fn freightpetal_layout(image: &mut [u8], count: u64, places: &[u64; 24]) -> u64
     ensures { record { code = result; bytes = image.new } ≡ layout_in image.old (layout_from count places.now) }
 {
-    code(lay_out(image, words::layout(count, places)))
+    refusal::code(lay_out(image, words::layout(count, places)))
 }
 
 #[tactic(auto, unfolding(crate::specs::Lent::restore_in))]
@@ -149,5 +137,5 @@ fn restore(image: &mut [u8], bytes: &[u8]) -> Result<(), Refusal>
 pub fn freightpetal_restore(image: &mut [u8], bytes: &[u8]) -> u64
     ensures { record { code = result; bytes = image.new } ≡ restore_in image.old bytes.now }
 {
-    code(restore(image, bytes))
+    refusal::code(restore(image, bytes))
 }

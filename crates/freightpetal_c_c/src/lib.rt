@@ -1,5 +1,5 @@
 // The calls of `freightpetal_c` under C's names: the archive that C and Rust link. Each has the clauses of the function that it calls.
-// library/freightpetal.h has the declarations.
+// library/freightpetal.h has the declarations. A crate of its own, since no crate can use a static library, and `promises` uses those functions.
 #![tactic(auto)]
 
 ghost use Rattle.std.specs.Prelude.{◌≡◌};

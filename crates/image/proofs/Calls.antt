@@ -1,16 +1,14 @@
 -- What a save and a restore leave, from what their steps do.
 use Rattle.refusal.specs.declared.Refusal.{Refusal}
-use Rattle.std.specs.Prelude.{Result, Ok, Err}
+use Rattle.std.specs.Prelude.{Some, None, Result, Ok, Err}
 use mathlib.Core.Path.{◌≡◌, refl, sym, ap, ◌∙◌}
-use mathlib.Core.Bool.{Bool, true, false, not, cond, ◌&&◌, true≢false}
-use mathlib.Core.Logic.{◌⊎◌, inl, inr}
+use mathlib.Core.Bool.{Bool, true, false, cond}
 use mathlib.Core.List.{List}
 use Prim.Native.Nat.{ℕ, ◌*◌, ◌≤◌}
 use native.Mathlib.Omega.{arith}
-use borrow.Author.Tests.{eq-eqb, ne_eqb, eqb-true, not-true}
+use borrow.Author.Tests.{eq-eqb, ne_eqb, eqb-true}
 use lib.Dec.{eqb}
 use lib.ListN.{length}
-use Rattle.sequence.proofs.Tests.{both}
 use Rattle.std.specs.Prelude.{bytes_eq}
 use Rattle.std.proofs.lemmas.Slice.Eq.{bytes_eq-Decides}
 use Rattle.blocks.specs.Lists.{Bytes, laid}
@@ -20,8 +18,7 @@ use Rattle.blocks.proofs.Lists.{laid-all}
 use Rattle.blocks.proofs.Images.{image-laid}
 use Rattle.refusal.specs.declared.Refusal.TheVariants.{WrongLength, BadCheck, ForeignImage}
 use Rattle.chain.specs.declared.Chain.{Chain}
-use Rattle.chain.specs.declared.Changed.{Changed}
-use Rattle.chain.specs.Chain.{changed, unchanged}
+use Rattle.chain.specs.Chain.{Changed, changed, unchanged}
 use Rattle.chain.specs.Base.{widened, base_of}
 use Rattle.codec.specs.Run.{Run}
 use Rattle.image.specs.Layout.{block_count, image_bytes, payload_words}
@@ -29,7 +26,9 @@ use Rattle.image.specs.Edition.{Edition, image_in, ours_in}
 use Rattle.image.specs.Edition1.{base, first_edition}
 use Rattle.image.specs.Edition1 as first
 use Rattle.image.specs.Chain.{chain, second_edition}
-use Rattle.image.specs.Image.{old_length, meaning, restored_in, save_verdict, saved_in, restore_of}
+use Rattle.image.specs.declared.EditionNumber.{EditionNumber}
+use Rattle.image.specs.declared.EditionNumber.TheVariants.{One, Two}
+use Rattle.image.specs.Image.{edition_of, words_by, read_by, meaning, restored_in, save_verdict, saved_in, restore_of}
 use Rattle.image.proofs.Edition as edition
 use Rattle.image.proofs.Laws.{first-laws, second-laws, not_old, meaning_old, meaning-new, restore_old, restore-new}
 
@@ -47,6 +46,30 @@ save-right c b b' w w' e l r h =
       rw (eq-eqb (length b) image_bytes e),
       rw (eq-eqb (length b) image_bytes e) (h ∙ image-laid block_count w' b e ∙ ap (image_of block_count) all),
     )
+
+-- ---- the edition by the length
+
+abbrev bytes_of : EditionNumber → ℕ
+bytes_of One = first.image_bytes
+bytes_of Two = image_bytes
+
+module _ (n : ℕ) where
+  length_of : (e : EditionNumber) → Some e ≡ edition_of n → n ≡ bytes_of e
+  length_of e h = go (eqb n image_bytes) refl (eqb n first.image_bytes) refl h
+    where
+      go : (x : Bool) → eqb n image_bytes ≡ x → (y : Bool) → eqb n first.image_bytes ≡ y → Some e ≡ cond x (Some Two) (cond y (Some One) None) → n ≡ bytes_of e
+      go true p y q k = let g : Two ≡ e = cc in eqb-true n image_bytes p ∙ ap bytes_of g
+      go false p true q k = let g : One ≡ e = cc in eqb-true n first.image_bytes q ∙ ap bytes_of g
+      go false p false q k = absurd (cc)
+
+  no-edition : None ≡ edition_of n → (eqb n image_bytes ≡ false) × (eqb n first.image_bytes ≡ false)
+  no-edition h = go (eqb n image_bytes) refl (eqb n first.image_bytes) refl h
+    where
+      go : (x : Bool) → eqb n image_bytes ≡ x → (y : Bool) → eqb n first.image_bytes ≡ y → None ≡ cond x (Some Two) (cond y (Some One) None)
+          → (eqb n image_bytes ≡ false) × (eqb n first.image_bytes ≡ false)
+      go true p y q k = absurd (cc)
+      go false p true q k = absurd (cc)
+      go false p false q k = (p, q)
 
 -- ---- a restore
 
@@ -69,56 +92,32 @@ module _ (old : Chain) (b : List ℕ) where
   by-new : length b ≡ image_bytes → restored_in second_edition b old (meaning b) ≡ restore_of old b
   by-new l = sym (restore-new b old (not_old b l))
 
-  -- the test of the length
-  abbrev other_length : Bool
-  other_length = not (eqb (length b) image_bytes) && not (eqb (length b) first.image_bytes)
-
-  pub wrong_length : other_length ≡ true → ◌≡◌ {A = Changed} (unchanged old WrongLength) (restore_of old b)
+  pub wrong_length : None ≡ edition_of (length b) → ◌≡◌ {A = Changed} (unchanged old WrongLength) (restore_of old b)
   wrong_length h =
-      let t = both (not (eqb (length b) image_bytes)) (not (eqb (length b) first.image_bytes)) h in
-      let n : restore_of old b ≡ restored_in second_edition b old (meaning b) = restore-new b old (not-true (eqb (length b) first.image_bytes) t.1) in
-      sym (n ∙ rw (not-true (eqb (length b) image_bytes) t.0))
+      let t = no-edition (length b) h in
+      sym (restore-new b old t.1 ∙ rw t.0)
 
-  abbrev Right : Type 0
-  Right = (length b ≡ image_bytes) ⊎ (length b ≡ first.image_bytes)
-
-  right : other_length ≡ false → Right
-  right = go (eqb (length b) image_bytes) refl (eqb (length b) first.image_bytes) refl
-    where
-      go : (x : Bool) → eqb (length b) image_bytes ≡ x → (y : Bool) → eqb (length b) first.image_bytes ≡ y → not x && not y ≡ false → Right
-      go true p y q h = inl (eqb-true (length b) image_bytes p)
-      go false p true q h = inr (eqb-true (length b) first.image_bytes q)
-      go false p false q h = absurd (true≢false h)
-
-  pub bad_check : (n : ℕ) → other_length ≡ false → n ≡ first_bad b → (n ≡ blocks_in b → ⊥) → ◌≡◌ {A = Changed} (unchanged old BadCheck) (restore_of old b)
-  bad_check n o f h = go (right o)
-    where
-      go : Right → ◌≡◌ {A = Changed} (unchanged old BadCheck) (restore_of old b)
-      go (inl l) =
-          let k : blocks_in b ≡ block_count = omega arith in
-          sym (bad_in second_edition l (meaning b) (λ p. h (f ∙ p ∙ sym k))) ∙ by-new l
-      go (inr l) =
-          let k : blocks_in b ≡ first.block_count = omega arith in
-          sym (bad_in first_edition l (meaning b) (λ p. h (f ∙ p ∙ sym k))) ∙ by_old l
+  pub bad_check : (e : EditionNumber) → Some e ≡ edition_of (length b) → (first_bad b ≡ blocks_in b → ⊥)
+      → ◌≡◌ {A = Changed} (unchanged old BadCheck) (restore_of old b)
+  bad_check One i h =
+      let l : length b ≡ first.image_bytes = length_of (length b) One i in
+      let k : blocks_in b ≡ first.block_count = omega arith in
+      sym (bad_in first_edition l (meaning b) (λ p. h (p ∙ sym k))) ∙ by_old l
+  bad_check Two i h =
+      let l : length b ≡ image_bytes = length_of (length b) Two i in
+      let k : blocks_in b ≡ block_count = omega arith in
+      sym (bad_in second_edition l (meaning b) (λ p. h (p ∙ sym k))) ∙ by-new l
 
   -- the payload w, in the places z; the chain that it is read as; its words, in the places z too; and whether they are w
-  module _ (n : ℕ) (z w again : List ℕ) (new : Chain) (older t : Bool) (s : Bytes b) (i : other_length ≡ false) (f : n ≡ first_bad b) (g : n ≡ blocks_in b)
-      (lz : length z ≡ payload_words) (p : w ≡ laid z 0 (payload_of b)) (o : older ≡ old_length b)
-      (r : new ≡ cond older (widened (base.dec w 0)) (chain.dec w 0))
-      (a : again ≡ laid z 0 (cond older (base.enc (base_of new)) (chain.enc new))) (u : t ≡ bytes_eq again w) where
+  module _ (z w again : List ℕ) (new : Chain) (t : Bool) (s : Bytes b) (f : first_bad b ≡ blocks_in b)
+      (lz : length z ≡ payload_words) (p : w ≡ laid z 0 (payload_of b)) (u : t ≡ bytes_eq again w) where
     -- ---- edition 1
-    module _ (l : length b ≡ first.image_bytes) where
+    module _ (l : length b ≡ first.image_bytes) (r : new ≡ read_by One w) (a : again ≡ laid z 0 (words_by One new)) where
       checks_old : first_bad b ≡ first.block_count
-      checks_old = let k : blocks_in b ≡ first.block_count = omega arith in sym f ∙ g ∙ k
-
-      is_old : older ≡ true
-      is_old = o ∙ eq-eqb (length b) first.image_bytes l
-
-      new_old : new ≡ widened (base.dec w 0)
-      new_old = rw is_old at r
+      checks_old = let k : blocks_in b ≡ first.block_count = omega arith in f ∙ k
 
       again_old : again ≡ laid z 0 (base.enc (base.dec w 0))
-      again_old = (rw is_old at a) ∙ ap (λ (x : Chain). laid z 0 (base.enc (base_of x))) new_old
+      again_old = a ∙ ap (λ (x : Chain). laid z 0 (base.enc (base_of x))) r
 
       room_old : 63 * first_edition.blocks ≤ length z
       room_old = omega arith
@@ -130,42 +129,41 @@ module _ (old : Chain) (b : List ℕ) where
       read_old h =
           meaning_old b (eq-eqb (length b) first.image_bytes l)
           ∙ ap {B = Chain} widened (sym (edition.is_read first-laws b s l checks_old z w again (base.dec w 0) room_old p refl again_old ((bytes_eq-Decides again w).0 (sym u ∙ h))))
-          ∙ sym new_old
+          ∙ sym r
+
+      good_old : t ≡ true → ◌≡◌ {A = Changed} (changed new) (restore_of old b)
+      good_old h = ap {B = Changed} changed (sym (read_old h)) ∙ sym (good_in first_edition l (meaning b) checks_old (test_old ∙ h)) ∙ by_old l
+
+      foreign_old : t ≡ false → ◌≡◌ {A = Changed} (unchanged old ForeignImage) (restore_of old b)
+      foreign_old h = sym (foreign_in first_edition l (meaning b) checks_old (test_old ∙ h)) ∙ by_old l
 
     -- ---- edition 2
-    module _ (l : length b ≡ image_bytes) where
+    module _ (l : length b ≡ image_bytes) (r : new ≡ read_by Two w) (a : again ≡ laid z 0 (words_by Two new)) where
       checks_new : first_bad b ≡ block_count
-      checks_new = let k : blocks_in b ≡ block_count = omega arith in sym f ∙ g ∙ k
-
-      is-new : older ≡ false
-      is-new = o ∙ not_old b l
-
-      new-new : new ≡ chain.dec w 0
-      new-new = rw is-new at r
-
-      again-new : again ≡ laid z 0 (chain.enc new)
-      again-new = rw is-new at a
+      checks_new = let k : blocks_in b ≡ block_count = omega arith in f ∙ k
 
       room-new : 63 * second_edition.blocks ≤ length z
       room-new = omega arith
 
       test-new : ours_in second_edition b ≡ t
-      test-new = edition.test second-laws b s l checks_new z w again new room-new p new-new again-new ∙ sym u
+      test-new = edition.test second-laws b s l checks_new z w again new room-new p r a ∙ sym u
 
       read-new : t ≡ true → meaning b ≡ new
-      read-new h = meaning-new b (not_old b l) ∙ sym (edition.is_read second-laws b s l checks_new z w again new room-new p new-new again-new ((bytes_eq-Decides again w).0 (sym u ∙ h)))
+      read-new h = meaning-new b (not_old b l) ∙ sym (edition.is_read second-laws b s l checks_new z w again new room-new p r a ((bytes_eq-Decides again w).0 (sym u ∙ h)))
+
+      good-new : t ≡ true → ◌≡◌ {A = Changed} (changed new) (restore_of old b)
+      good-new h = ap {B = Changed} changed (sym (read-new h)) ∙ sym (good_in second_edition l (meaning b) checks_new (test-new ∙ h)) ∙ by-new l
+
+      foreign-new : t ≡ false → ◌≡◌ {A = Changed} (unchanged old ForeignImage) (restore_of old b)
+      foreign-new h = sym (foreign_in second_edition l (meaning b) checks_new (test-new ∙ h)) ∙ by-new l
 
     -- ---- either
-    pub good : t ≡ true → ◌≡◌ {A = Changed} (changed new) (restore_of old b)
-    good h = go (right i)
-      where
-        go : Right → ◌≡◌ {A = Changed} (changed new) (restore_of old b)
-        go (inl l) = ap {B = Changed} changed (sym (read-new l h)) ∙ sym (good_in second_edition l (meaning b) (checks_new l) (test-new l ∙ h)) ∙ by-new l
-        go (inr l) = ap {B = Changed} changed (sym (read_old l h)) ∙ sym (good_in first_edition l (meaning b) (checks_old l) (test_old l ∙ h)) ∙ by_old l
+    pub good : (e : EditionNumber) → Some e ≡ edition_of (length b) → new ≡ read_by e w → again ≡ laid z 0 (words_by e new)
+        → t ≡ true → ◌≡◌ {A = Changed} (changed new) (restore_of old b)
+    good One i r a h = good_old (length_of (length b) One i) r a h
+    good Two i r a h = good-new (length_of (length b) Two i) r a h
 
-    pub foreign : t ≡ false → ◌≡◌ {A = Changed} (unchanged old ForeignImage) (restore_of old b)
-    foreign h = go (right i)
-      where
-        go : Right → ◌≡◌ {A = Changed} (unchanged old ForeignImage) (restore_of old b)
-        go (inl l) = sym (foreign_in second_edition l (meaning b) (checks_new l) (test-new l ∙ h)) ∙ by-new l
-        go (inr l) = sym (foreign_in first_edition l (meaning b) (checks_old l) (test_old l ∙ h)) ∙ by_old l
+    pub foreign : (e : EditionNumber) → Some e ≡ edition_of (length b) → new ≡ read_by e w → again ≡ laid z 0 (words_by e new)
+        → t ≡ false → ◌≡◌ {A = Changed} (unchanged old ForeignImage) (restore_of old b)
+    foreign One i r a h = foreign_old (length_of (length b) One i) r a h
+    foreign Two i r a h = foreign-new (length_of (length b) Two i) r a h

@@ -10,7 +10,7 @@ use Rattle.codec.specs.Codec.{CodecLaws}
 use Rattle.codec.specs.Forms.{fixed}
 use Rattle.codec.proofs.Forms.{f64-laws, flag-laws, one_laws, fixed_laws, pair-laws, as_a-laws, also-laws}
 use Rattle.settings.specs.Settings.{outside_of, outside_strand, outside_duck, outside_settings, fresh_settings}
-use Rattle.strand_image.specs.Strand.{strand, front, state, filters, decimated, floor, window, latest, decision, counts}
+use Rattle.strand_image.specs.Strand.{strand, front, state, filters, floor, window, latest, decision, counts}
 use Rattle.strand_image.proofs.Codecs.{strand-laws}
 use Rattle.surround_image.proofs.Codecs.{surround-laws, surround-size}
 use Rattle.image.specs.Layout.{edition, payload_words, body_words, unused_words}
@@ -29,7 +29,7 @@ unfolding settings numbers strand_settings duck
 size-settings = refl
 
 pub size-strand : strand.size ≡ 628
-unfolding strand front state filters decimated floor window latest decision counts
+unfolding strand front state filters floor window latest decision counts
 size-strand = refl
 
 size-loops : loops.size ≡ 4

@@ -24,8 +24,7 @@ use Rattle.refusal.specs.declared.Refusal.{Refusal}
 use Rattle.refusal.specs.declared.Refusal.TheVariants.{WrongLength, BadCheck, ForeignImage}
 use Rattle.refusal.specs.Table.{number_of, ◌means◌, first_number}
 use Rattle.chain.specs.declared.Chain.{Chain}
-use Rattle.chain.specs.declared.Changed.{Changed}
-use Rattle.chain.specs.Chain.{changed, unchanged}
+use Rattle.chain.specs.Chain.{Changed, changed, unchanged}
 use Rattle.image.specs.Edition.{Edition, image_in, read_in, length_in, checks_in, ours_in, refuses_in}
 use Rattle.image.specs.Image.{restored_in}
 

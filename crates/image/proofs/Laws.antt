@@ -16,8 +16,7 @@ use Rattle.refusal.specs.declared.Refusal.TheVariants.{WrongLength, BadCheck}
 use Rattle.refusal.specs.Table.{number_of, InTable}
 use Rattle.demands.specs.Calls.{refusal, passed, done, Step, gets}
 use Rattle.chain.specs.declared.Chain.{Chain}
-use Rattle.chain.specs.declared.Changed.{Changed}
-use Rattle.chain.specs.Chain.{changed, unchanged}
+use Rattle.chain.specs.Chain.{Changed, changed, unchanged}
 use Rattle.chain.specs.Base.{Base, widened}
 use Rattle.chain.specs.Valid.{Valid}
 use Rattle.image.specs.Layout.{block_count, image_bytes}
@@ -224,9 +223,9 @@ module _ {Answer : Type 0} (s : Chain) where
       go false q h = rw q
 
   pub restored : (b : List ℕ) → refuses_image b ≡ 0 → ◌≡◌ {A = Step Chain Answer} (on_restore s b) (gets (passed done) b (meaning b))
-  restored b e = ap (λ (r : Changed). gets (reply_of r.verdict) b r.chain) (restore-accepted b s e)
+  restored b e = ap (λ (r : Changed). gets (reply_of r.outcome) b r.chain) (restore-accepted b s e)
 
   pub restore_refused : (b : List ℕ) → (refuses_image b ≡ 0 → ⊥) → ◌≡◌ {A = Step Chain Answer} (on_restore s b) (gets (refusal (refuses_image b)) b s)
   restore_refused b h =
       let u = restore-unchanged b s h in
-      ap (λ (r : Changed). gets (reply_of r.verdict) b r.chain) u.2 ∙ ap (λ (n : ℕ). gets (refusal n) b s) (sym u.1)
+      ap (λ (r : Changed). gets (reply_of r.outcome) b r.chain) u.2 ∙ ap (λ (n : ℕ). gets (refusal n) b s) (sym u.1)

@@ -20,7 +20,7 @@ module _ {Answer : Type 0} where
   on_save c b = gets (reply_of (save_verdict b)) (saved_in c b) c
 
   abbrev pub on_restore : Chain → List ℕ → Step Chain Answer
-  on_restore c b = gets (reply_of (restore_of c b).verdict) b (restore_of c b).chain
+  on_restore c b = gets (reply_of (restore_of c b).outcome) b (restore_of c b).chain
 
 -- a save's number in the specification's table; 0: it passes
 abbrev pub refuses_save : List ℕ → ℕ

@@ -3,7 +3,7 @@
 // channels: it restores as a chain whose bed is one channel at 0, 0.
 #![tactic(auto)]
 
-ghost use Rattle.std.specs.Prelude.{◌≡◌, cond, ◌+◌, ◌^◌, ◌≤◌};
+ghost use Rattle.std.specs.Prelude.{◌≡◌, ◌+◌, ◌^◌, ◌≤◌};
 ghost use Rattle.blocks.specs.Lists.{laid};
 ghost use Rattle.codec.specs.Run.{Run};
 ghost use Rattle.image.specs.Chain.{
@@ -20,12 +20,13 @@ ghost use Rattle.image.specs.Chain.{
   with_surround,
   chain,
 };
-ghost use Rattle.chain.specs.Base.{widened, base_of};
+ghost use Rattle.chain.specs.Base.{base_of};
 ghost use Rattle.image.specs.Layout.{body_words, payload_words};
 ghost use Rattle.image.specs.Edition1 as first;
-ghost use Rattle.image.specs.Image.{save_verdict, saved_in, restore_of};
+ghost use Rattle.image.specs.Image.{edition_of, words_by, read_by, save_verdict, saved_in, restore_of};
 
-use chain::{Chain, Changed};
+use blocks::{BLOCK_BYTES, CHECKED_WORDS};
+use chain::{After, Chain, Changed};
 use channels::Surround;
 use comis::loop_bank::Loops;
 use float::{Db, Lufs};
@@ -34,26 +35,18 @@ use refusal::Refusal;
 use settings::Settings;
 use vad::VadSettings;
 
-const BLOCK_BYTES: usize = 512;
-
-const BLOCK_WORDS: usize = 63; // before the check
-
-const EDITION: u64 = 2;
-
 const BLOCKS: usize = 22;
 
 pub const BYTES: usize = BLOCK_BYTES * BLOCKS;
 
-const WORDS: usize = BLOCK_WORDS * BLOCKS; // of a payload
+const WORDS: usize = CHECKED_WORDS * BLOCKS; // of a payload
 
 // Edition 1.
-const OLD_EDITION: u64 = 1;
-
 const OLD_BLOCKS: usize = 21;
 
 const OLD_BYTES: usize = BLOCK_BYTES * OLD_BLOCKS;
 
-const OLD_WORDS: usize = BLOCK_WORDS * OLD_BLOCKS;
+const OLD_WORDS: usize = CHECKED_WORDS * OLD_BLOCKS;
 
 // Where the parts of a payload begin, after the edition; in edition 1 the words from the bed's channels on are zero.
 const SETTINGS: usize = 1;
@@ -74,9 +67,29 @@ const OLD_UNUSED: usize = SURROUND as usize;
 
 const OLD_UNUSED_WORDS: usize = OLD_WORDS - OLD_UNUSED;
 
+// Which edition an image is, by its number.
+#[derive(Clone, Copy)]
+enum EditionNumber {
+    One = 1,
+    Two = 2,
+}
+
+// The edition of an image so many bytes long.
+fn edition_of(length: usize) -> Option<EditionNumber>
+    ensures { result ≡ edition_of length }
+{
+    match length {
+        BYTES => Some(EditionNumber::Two),
+        OLD_BYTES => Some(EditionNumber::One),
+        _ => None,
+    }
+}
+
 // ---- writing, from place `at` on
 //
-// Each function says how far its words reach, so that their places fit: a type for a place would have to say it at each step.
+// Each function says how far its words reach, so that the places of its parts, sums of `at`, fit a usize; every caller hands it a constant.
+// A type for a place, or the slice from it on, would need the same bound at each sum. The functions that read say the same. A function for each type and no
+// trait: nothing here is generic over these types, as rows are in `surround_image`.
 
 fn put_strand_settings(w: &mut [u64], at: usize, s: VadSettings)
     requires { at + 3 ≤ 2 ^ 64 }
@@ -131,7 +144,7 @@ fn put_body(w: &mut [u64], c: Chain)
 fn put_chain(w: &mut [u64], c: Chain)
     ensures { Run w.old 0 payload_words (chain.enc c) w.new }
 {
-    codec::put(w, 0, EDITION);
+    codec::put(w, 0, EditionNumber::Two as u64);
     put_body(w, c);
     surround_image::put_surround(w, SURROUND, c.surround);
     codec::put_zeros(w, UNUSED, UNUSED_WORDS);
@@ -141,20 +154,19 @@ fn put_chain(w: &mut [u64], c: Chain)
 fn put_base(w: &mut [u64], c: Chain)
     ensures { Run w.old 0 first.payload_words ((first.base).enc (base_of c)) w.new }
 {
-    codec::put(w, 0, OLD_EDITION);
+    codec::put(w, 0, EditionNumber::One as u64);
     put_body(w, c);
     codec::put_zeros(w, OLD_UNUSED, OLD_UNUSED_WORDS);
 }
 
-// The words of edition 1 where `older` says so, else of edition 2.
-fn put_either(w: &mut [u64], older: bool, c: Chain)
-    ensures { w.new ≡ laid w.old 0 (cond older ((first.base).enc (base_of c)) (chain.enc c)) }
+// The words of this edition.
+fn put_either(w: &mut [u64], edition: EditionNumber, c: Chain)
+    ensures { w.new ≡ laid w.old 0 (words_by edition c) }
 {
-    if older {
-        put_base(w, c);
-        return;
+    match edition {
+        EditionNumber::One => put_base(w, c),
+        EditionNumber::Two => put_chain(w, c),
     }
-    put_chain(w, c);
 }
 
 // ---- reading, from place `at` on
@@ -279,14 +291,15 @@ fn get_body(w: &[u64], surround: Surround) -> Chain
     }
 }
 
-// The chain that a payload of edition 1 is read as where `older` says so, else one of edition 2.
-fn get_either(w: &[u64], older: bool) -> Chain
-    ensures { result ≡ cond older (widened ((first.base).dec w.now 0)) (chain.dec w.now 0) }
+// The chain that a payload of this edition is read as. `get_body` is called in both arms: called once behind the match it was
+// inlined, and a frame through the library took 2 % longer.
+fn get_either(w: &[u64], edition: EditionNumber) -> Chain
+    ensures { result ≡ read_by edition w.now }
 {
-    if older {
-        return get_body(w, Surround::new());
+    match edition {
+        EditionNumber::One => get_body(w, Surround::new()),
+        EditionNumber::Two => get_body(w, surround_image::get_surround(w, SURROUND)),
     }
-    get_body(w, surround_image::get_surround(w, SURROUND))
 }
 
 // ---- the two calls
@@ -306,35 +319,26 @@ pub fn save(c: Chain, b: &mut [u8]) -> Result<(), Refusal>
 
 // Restores a chain: the one that b means, or the old one and why not. Refusals 6: b is neither 11,264 bytes long nor 10,752; 7: a block's
 // check is wrong; 8: a word breaks the image rules, so that writing what was read gives other words.
+// A function inside that answers a `Result<Chain, Refusal>` was tried: `freightpetal_check` took 1.2 times as long, a frame 3 % longer.
 pub fn restore(old: Chain, b: &[u8]) -> Changed
     ensures { result ≡ restore_of old b.now }
 {
-    if (b.len() != BYTES) & (b.len() != OLD_BYTES) {
-        return Changed {
-            chain: old,
-            verdict: Err(Refusal::WrongLength),
-        };
-    }
-    if blocks::first_bad(b) != b.len() / BLOCK_BYTES {
-        return Changed {
-            chain: old,
-            verdict: Err(Refusal::BadCheck),
-        };
+    let Some(edition) = edition_of(b.len()) else {
+        return old.refused(Refusal::WrongLength);
+    };
+    if blocks::first_bad(b).is_some() {
+        return old.refused(Refusal::BadCheck);
     }
     let mut w = [0u64; WORDS];
     blocks::payload(b, &mut w);
-    let older = b.len() == OLD_BYTES;
-    let new = get_either(&w, older);
+    let new = get_either(&w, edition);
     let mut again = [0u64; WORDS];
-    put_either(&mut again, older, new);
-    if again == w {
-        return Changed {
-            chain: new,
-            verdict: Ok(()),
-        };
+    put_either(&mut again, edition, new);
+    if again != w {
+        return old.refused(Refusal::ForeignImage);
     }
-    Changed {
-        chain: old,
-        verdict: Err(Refusal::ForeignImage),
+    After {
+        chain: new,
+        outcome: Ok(()),
     }
 }

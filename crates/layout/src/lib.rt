@@ -17,7 +17,15 @@ pub struct Place {
     pub lfe: u64,
 }
 
-// The first count of the places are the channels', in their order. The count stands beside an array, since it too is a word as it comes: any can be held.
+// Straight ahead; also what stands in a place that isn't used.
+pub const CENTRE: Place = Place {
+    azimuth: 0,
+    elevation: 0,
+    lfe: 0,
+};
+
+// The first count of the places are the channels', in their order. The count stands beside an array: there is no heap, and it
+// too is a word as it comes, of which any can be held.
 #[derive(Clone, Copy)]
 pub struct Layout {
     pub count: u64,
@@ -79,13 +87,6 @@ impl Place {
     }
 }
 
-// What stands in the places after the channels'.
-const BLANK: Place = Place {
-    azimuth: 0,
-    elevation: 0,
-    lfe: 0,
-};
-
 impl Layout {
     // A fresh chain's: one channel at 0, 0.
     #[tactic(auto, unfolding(crate::specs::Layout::blanks))]
@@ -94,7 +95,7 @@ impl Layout {
     {
         Self {
             count: 1,
-            places: [BLANK; 8],
+            places: [CENTRE; 8],
         }
     }
 
@@ -113,11 +114,12 @@ impl Layout {
         (1..=MOST).contains(&n) && self.places[..n].iter().all(|p| p.within())
     }
 
-    // The layout as it is stored: an LFE's angles are 0, and what is unused is 0.
+    // The layout as it is stored: an LFE's angles are 0, and what is unused is 0. By index, here and below: after a loop over `iter_mut().zip` nothing is
+    // known of what it wrote.
     pub fn stored(self) -> Layout
         ensures { result ≡ stored_of self }
     {
-        let mut places = [BLANK; 8];
+        let mut places = [CENTRE; 8];
         for (i, place) in self.places[..self.channels()].iter().enumerate() {
             places[i] = place.placed();
         }

@@ -8,7 +8,7 @@ use lib.Ieee.Scale.{finite}
 use Rattle.float.proofs.Exact.{nil_and, by_one}
 use Rattle.biquad.specs.Sections.{k_shelf, k_high_pass}
 use Rattle.sequence.specs.History.{latest, pushed}
-use Rattle.sequence.specs.Latest.{zeros}
+use Rattle.sequence.specs.Latest.{blanks}
 use Rattle.sequence.proofs.Deque.{pushed-latest}
 use Rattle.sequence.proofs.Newest.{newest-of-latest}
 use Rattle.sequence.proofs.Series.{series_take}
@@ -146,7 +146,7 @@ levels_from (f ∷ fs) l e =
     (h.0 ∙ ap (λ (m : Meter). foldl meter_next m fs) (level-deque l f e), h.1)
 
 fresh-places : length fresh_of.powers.list ≡ 300
-unfolding zeros
+unfolding blanks
 fresh-places = refl
 
 fresh-meter : meter_of fresh_of ≡ new_meter

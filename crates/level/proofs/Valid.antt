@@ -6,7 +6,7 @@ use lib.Ieee.Fits.{add-fits, sub-fits, and_l, and_r}
 use lib.Ieee.Scale.{finite}
 use Rattle.biquad.specs.Tick.{tick_of}
 use Rattle.float.specs.Valid.{Num}
-use Rattle.sequence.specs.Latest.{zeros, push_of}
+use Rattle.sequence.specs.Latest.{blanks, push_of}
 use Rattle.sequence.proofs.Counted.{counted_none, counted-more}
 use Rattle.level.specs.declared.Weighing.{Weighing}
 use Rattle.level.specs.declared.Level.{Level}
@@ -61,7 +61,7 @@ unfolding of_bits fits
 zero-num = (tt, tt)
 
 pub fresh_valid : Valid fresh_of
-unfolding zeros
+unfolding blanks
 fresh_valid = record {
   shelf = record { z1 = zero-num; z2 = zero-num };
   high_pass = record { z1 = zero-num; z2 = zero-num };

@@ -31,7 +31,7 @@ joined_of j weight w n = record { power = j.power ⊕ weight ⊗ w.energy ⊘ wh
 -- ---- the powers of the latest frames
 
 abbrev pub Powers : Type 0
-Powers = Latest short_term_frames
+Powers = Latest Float short_term_frames
 
 -- from a sum on, at most n of the values, newest first
 unfoldable pub sum_of : Float → ℕ → List Float → Float
@@ -78,7 +78,7 @@ read_of j p = read_all j (push_of p j.power) (means_of (push_of p j.power))
 -- ---- a frame
 
 abbrev pub fresh_of : Level
-fresh_of = record { shelf = at_rest; high_pass = at_rest; fast = zero64; powers = no_values short_term_frames }
+fresh_of = record { shelf = at_rest; high_pass = at_rest; fast = zero64; powers = no_values short_term_frames zero64 }
 
 unfoldable pub start_of : Level → Weighing
 start_of l = record { shelf = l.shelf; high_pass = l.high_pass; fast = l.fast; energy = zero64 }

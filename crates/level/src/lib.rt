@@ -11,6 +11,7 @@ ghost use Rattle.biquad.specs.Tick.{tick_of};
 ghost use Rattle.level.specs.Rest.{same_state, holds_of, rests_of, shelf_output, held_step, held_run, still_step};
 ghost use Rattle.level.specs.Weighing.{clean_of, step_of, run_of};
 ghost use Rattle.level.specs.Level.{
+  no_channel,
   joined_of,
   sum_of,
   means_of,
@@ -37,7 +38,7 @@ const MOMENTARY: usize = 40;
 const SHORT_TERM: usize = 300;
 
 // The powers of the latest frames, oldest first; the places after them are 0.
-pub type Powers = Latest<SHORT_TERM>;
+pub type Powers = Latest<f64, SHORT_TERM>;
 
 // The share of the fast mean square that stays with each sample: exp(-1 / 2400), a time constant of 50 ms.
 const FAST_COEFF: f64 = 0.9995833639986813;
@@ -106,7 +107,7 @@ pub struct Framed {
     pub finite: bool,
 }
 
-// Whether two states are surely the same: their numbers have the same bits, and none is NaN.
+// Whether two states are surely the same: their numbers have the same bits, and none is NaN. No `==`, for the reason at `float::same`.
 #[tactic(auto, unfolding(crate::specs::Rest::same_state))]
 pub fn same_state(s: State, t: State) -> bool
     ensures { (result ≡ same_state s t) × (T result → s ≡ t) }
@@ -209,6 +210,16 @@ impl Weighing {
 }
 
 impl Joint {
+    // The sums over no channel.
+    pub fn new() -> Self
+        ensures { result ≡ no_channel }
+    {
+        Self {
+            power: 0.0,
+            fast: 0.0,
+        }
+    }
+
     // One channel more: its weight, and what its frame of n samples came to.
     #[tactic(auto, unfolding(crate::specs::Level::joined_of))]
     pub fn join(self, weight: f64, w: Weighing, n: usize) -> Joint
@@ -310,7 +321,7 @@ impl Level {
             shelf: State::new(),
             high_pass: State::new(),
             fast: 0.0,
-            powers: Powers::new(),
+            powers: Powers::new(0.0),
         }
     }
 
@@ -341,11 +352,7 @@ impl Level {
 pub fn finish(w: Weighing, powers: Powers, n: usize) -> Framed
     ensures { result ≡ finish_of w powers n }
 {
-    let none = Joint {
-        power: 0.0,
-        fast: 0.0,
-    };
-    let read = none.join(WEIGHT, w, n).read(powers);
+    let read = Joint::new().join(WEIGHT, w, n).read(powers);
     Framed {
         level: Level {
             shelf: w.shelf,

@@ -2,7 +2,7 @@
 use Rattle.chain.specs.declared.Answer.{Answer}
 use Rattle.refusal.specs.declared.Refusal.{Refusal}
 use Rattle.std.specs.Prelude.{Result, Ok, Err}
-use Rattle.std.proofs.Common.{◌≡◌, ℕ, ◌+◌, ◌≤◌, Bool, true, false, cond, eqb, List, [], ◌∷◌, ◌++◌, length, append_assoc, arith, length-append}
+use Rattle.std.proofs.Common.{◌≡◌, ℕ, ◌+◌, ◌≤◌, Bool, true, false, cond, eqb, List, [], ◌∷◌, ◌++◌, length, ap, append_assoc, arith, length-append}
 use Rattle.comis.specs.declared.mix_state.MixState.{MixState}
 use Rattle.comis.specs.declared.mix_state.MixState.TheVariants.{ReleaseToUnity, DuckToTarget, InterviewPassthrough, DuckToOvervoice}
 use Rattle.program.specs.Text.{ascii}
@@ -46,18 +46,18 @@ active-length : (b : Bool) → length (ascii (active_name b)) ≤ 1
 active-length true = omega arith
 active-length false = omega arith
 
-pub state-end : (t : List ℕ) (at : ℕ) (s : MixState) (t' : List ℕ) (end : ℕ) → text t' end ≡ put_at t at (state_part s) → end ≤ at + 11
-state-end t at s t' end e =
+pub state-room : (s : MixState) (xs : List ℕ) → xs ≡ state_part s → length xs ≤ 11
+state-room s xs e =
     omega (
       arith,
-      bytes-end t at (state_part s) t' end e,
+      ap length e,
       length-append (ascii " " ++ ascii (state_name s)) (ascii " "),
       length-append (ascii " ") (ascii (state_name s)),
       state-length s,
     )
 
-pub active-end : (t : List ℕ) (at : ℕ) (b : Bool) (t' : List ℕ) (end : ℕ) → text t' end ≡ put_at t at (active_part b) → end ≤ at + 2
-active-end t at b t' end e = omega (arith, bytes-end t at (active_part b) t' end e, length-append (ascii (active_name b)) (ascii " "), active-length b)
+pub active-room : (b : Bool) (xs : List ℕ) → xs ≡ active_part b → length xs ≤ 2
+active-room b xs e = omega (arith, ap length e, length-append (ascii (active_name b)) (ascii " "), active-length b)
 
 pub decimal-end : (t : List ℕ) (at n : ℕ) (t' : List ℕ) (end : ℕ) → text t' end ≡ put_at t at (decimal n) → end ≤ at + 20
 decimal-end t at n t' end e = omega (arith, bytes-end t at (decimal n) t' end e, decimal-length n)

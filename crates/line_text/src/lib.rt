@@ -1,4 +1,5 @@
-// duckline's lines (specs/Line.antt), put into a text that is lent.
+// duckline's lines (specs/Line.antt), put into a text that is lent: an array and the place after what was put, since duckline takes no heap while it
+// runs. By hand: each byte is promised, and `write!` doesn't say which bytes it writes.
 #![tactic(auto)]
 
 ghost use Rattle.std.specs.Prelude.{◌≡◌, ◌+◌, ◌-◌, ◌^◌, ◌≤◌, min, ◌++◌, length};
@@ -13,7 +14,7 @@ use refusal::Refusal;
 pub const TEXT: usize = 1024;
 
 // Puts bytes at a place of the text, and answers the place after them. What has no place in the text is dropped. Here and below the
-// caller shows that places don't wrap.
+// caller shows that places don't wrap, with another n for each part: a type for text and place would need the same bound at each part.
 #[tactic(auto, using(crate::proofs::Putting::laid_there))]
 fn put(text: &mut [u8; TEXT], at: usize, bytes: &[u8]) -> usize
     requires { at + length bytes.now ≤ 2 ^ 32 }
@@ -36,28 +37,22 @@ fn put_number(text: &mut [u8; TEXT], at: usize, n: u64) -> usize
 }
 
 // A state's name between two spaces: at most 11 bytes.
-fn put_state(text: &mut [u8; TEXT], at: usize, state: MixState) -> usize
-    requires { at + 11 ≤ 2 ^ 32 }
-    ensures { record { bytes = text.new; end = result } ≡ put_at text.old at (ascii " " ++ ascii (state_name state) ++ ascii " ") }
+fn state_text(state: MixState) -> &'static [u8]
+    ensures { result.now ≡ ascii " " ++ ascii (state_name state) ++ ascii " " }
 {
     match state {
-        MixState::ReleaseToUnity => put(text, at, b" release "),
-        MixState::DuckToTarget => put(text, at, b" duck "),
-        MixState::InterviewPassthrough => put(text, at, b" interview "),
-        MixState::DuckToOvervoice => put(text, at, b" overvoice "),
+        MixState::ReleaseToUnity => b" release ",
+        MixState::DuckToTarget => b" duck ",
+        MixState::InterviewPassthrough => b" interview ",
+        MixState::DuckToOvervoice => b" overvoice ",
     }
 }
 
 // Whether speech is active, and a space.
-fn put_active(text: &mut [u8; TEXT], at: usize, active: bool) -> usize
-    requires { at + 2 ≤ 2 ^ 32 }
-    ensures { record { bytes = text.new; end = result } ≡ put_at text.old at (ascii (active_name active) ++ ascii " ") }
+fn active_text(active: bool) -> &'static [u8]
+    ensures { result.now ≡ ascii (active_name active) ++ ascii " " }
 {
-    if active {
-        put(text, at, b"1 ")
-    } else {
-        put(text, at, b"0 ")
-    }
+    if active { b"1 " } else { b"0 " }
 }
 
 // A rounded reduction, dB, in hundredths, cast as Rust's `as u64` does.
@@ -76,14 +71,14 @@ fn put_answer(text: &mut [u8; TEXT], at: usize, a: Answer) -> usize
     let status = a.status;
     let state = status.state;
     let reduction = status.reduction_db;
-    let key = put_state(text, at, state);
-    let bed = put_active(text, key, a.key.speech_active);
-    let number = put_active(text, bed, a.bed.speech_active);
+    let key = put(text, at, state_text(state));
+    let bed = put(text, key, active_text(a.key.speech_active));
+    let number = put(text, bed, active_text(a.bed.speech_active));
     let end = put_number(text, number, hundredths(reduction.0));
     put(text, end, b"\n")
 }
 
-// A frame's line, at most 64 bytes.
+// A frame's line, at most 64 bytes. The place is a u16, so that nothing is asked of a caller.
 pub fn frame(text: &mut [u8; TEXT], at: u16, number: u64, outcome: Result<Answer, Refusal>) -> usize
     ensures { record { bytes = text.new; end = result } ≡ put_at text.old at (line_of number outcome) }
 {
@@ -92,7 +87,7 @@ pub fn frame(text: &mut [u8; TEXT], at: u16, number: u64, outcome: Result<Answer
         Ok(a) => put_answer(text, middle, a),
         Err(refusal) => {
             let code = put(text, middle, b" refused ");
-            let end = put_number(text, code, refusal::number(refusal));
+            let end = put_number(text, code, u64::from(refusal));
             put(text, end, b"\n")
         }
     }

@@ -8,24 +8,12 @@ use Rattle.detector.specs.declared.filters.Bands.{Bands}
 use Rattle.detector.specs.Filters as filters
 use Rattle.pairs.specs.declared.Pair.{Pair}
 use Rattle.pairs.specs.declared.Place.{Place}
-use Rattle.pairs.specs.declared.Place.TheVariants.{First, Second}
 use Rattle.pairs.specs.declared.WeighedPairs.{WeighedPairs}
-use Rattle.pairs.specs.Pairs as pairs
 use Rattle.pairs.specs.Pairs.{value_at, states_of, state_at, weighed_pairs}
-use Rattle.paired_filters.specs.declared.Side.{Side}
-use Rattle.paired_filters.specs.declared.Side.TheVariants.{Key, Bed}
 use Rattle.paired_filters.specs.declared.BandedPairs.{BandedPairs}
 use Rattle.paired_filters.specs.declared.Filtered.{Filtered}
 
--- ---- both strands' numbers side by side, and those of one strand
-
--- the key's are the first
-abbrev pub place_of : Side → Place
-place_of Key = First
-place_of Bed = Second
-
-abbrev pub weighing_at : WeighedPairs → Side → Weighing
-weighing_at p side = pairs.weighing_at p (place_of side)
+-- ---- both strands' numbers side by side, the key's first, and those of one strand
 
 abbrev pub banded_pairs : Bands → Bands → BandedPairs
 banded_pairs k b = record {
@@ -50,9 +38,6 @@ banded_at p place = record {
   band = value_at p.band place;
   pitch = value_at p.pitch place;
 }
-
-abbrev pub bands_at : BandedPairs → Side → Bands
-bands_at p side = banded_at p (place_of side)
 
 -- ---- over their samples
 

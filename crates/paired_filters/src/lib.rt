@@ -1,21 +1,14 @@
 // The filters of both strands side by side: the level's and the detector's, of the key and of the bed, over a frame. In a `Pair` the key's is the
-// first, the bed's the second.
+// first, the bed's the second: `Place` is which strand.
 #![tactic(auto)]
 
 ghost use Rattle.std.specs.Prelude.{◌≡◌};
 ghost use Rattle.detector.specs.Filters.{outputs_of};
-ghost use Rattle.paired_filters.specs.Pairs.{place_of, weighing_at, banded_pairs, banded_at, bands_at, weighed_of, beside_of, banded_of, filtered_of};
+ghost use Rattle.paired_filters.specs.Pairs.{banded_pairs, banded_at, weighed_of, beside_of, banded_of, filtered_of};
 
 use detector::{Bands, Filters};
 use level::{FRAME, Weighing};
 use pairs::{Pair, Place, States, WeighedPairs};
-
-// One of a chain's two strands.
-#[derive(Clone, Copy)]
-pub enum Side {
-    Key,
-    Bed,
-}
 
 // The detector's filters of both strands, their numbers side by side.
 #[derive(Clone, Copy)]
@@ -34,32 +27,6 @@ pub struct BandedPairs {
 pub struct Filtered {
     pub weighed: WeighedPairs,
     pub banded: BandedPairs,
-}
-
-impl Side {
-    // Where this strand's numbers stand in a pair.
-    fn place(self) -> Place
-        ensures { result ≡ place_of self }
-    {
-        match self {
-            Side::Key => Place::First,
-            Side::Bed => Place::Second,
-        }
-    }
-
-    // This strand's filters of the level.
-    pub fn weighing(self, weighed: WeighedPairs) -> Weighing
-        ensures { result ≡ weighing_at weighed self }
-    {
-        weighed.at(self.place())
-    }
-
-    // This strand's filters of the detector.
-    pub fn bands(self, banded: BandedPairs) -> Bands
-        ensures { result ≡ bands_at banded self }
-    {
-        banded.at(self.place())
-    }
 }
 
 impl BandedPairs {
@@ -90,7 +57,7 @@ impl BandedPairs {
     }
 
     // One of the two.
-    fn at(self, place: Place) -> Bands
+    pub fn at(self, place: Place) -> Bands
         ensures { result ≡ banded_at self place }
     {
         Bands {
@@ -107,12 +74,13 @@ impl BandedPairs {
     }
 }
 
-// The level's filters over a frame, both strands in one loop, so that their steps go side by side.
-fn weigh(key: Weighing, bed: Weighing, xs: &[f64; FRAME], ys: &[f64; FRAME]) -> WeighedPairs
-    ensures { result ≡ weighed_of key bed xs.now ys.now }
+// The level's filters over a frame, both strands in one loop, so that their steps go side by side. By index, here and in the two loops below: an array of
+// FRAME samples needs no bound, and after a loop over `iter_mut().zip` nothing is known of what it wrote.
+fn weigh(weighed: Pair<Weighing>, xs: &[f64; FRAME], ys: &[f64; FRAME]) -> WeighedPairs
+    ensures { result ≡ weighed_of weighed.first weighed.second xs.now ys.now }
 {
-    let mut k = key;
-    let mut b = bed;
+    let mut k = weighed.first;
+    let mut b = weighed.second;
     for i in 0..FRAME {
         k = k.step(xs[i]);
         b = b.step(ys[i]);
@@ -135,9 +103,13 @@ fn weigh_beside(v: f64, held: Weighing, other: Weighing, ys: &[f64; FRAME]) -> P
 
 // The level's filters over a frame. In silence a shelf's numbers end below the smallest normal number, where the processor is slow, and stay:
 // then they aren't computed.
-fn weigh_frame(key: Weighing, bed: Weighing, xs: &[f64; FRAME], ys: &[f64; FRAME]) -> WeighedPairs
-    ensures { result ≡ weighed_of key bed xs.now ys.now }
+fn weigh_frame(weighed: Pair<Weighing>, xs: &[f64; FRAME], ys: &[f64; FRAME]) -> WeighedPairs
+    ensures { result ≡ weighed_of weighed.first weighed.second xs.now ys.now }
 {
+    let Pair {
+        first: key,
+        second: bed,
+    } = weighed;
     let x = xs[0];
     let y = ys[0];
     if key.rests(x, xs) {
@@ -148,23 +120,22 @@ fn weigh_frame(key: Weighing, bed: Weighing, xs: &[f64; FRAME], ys: &[f64; FRAME
         let s = weigh_beside(bed.shelf_output(y), bed, key, xs);
         return WeighedPairs::of(s.second, s.first);
     }
-    weigh(key, bed, xs, ys)
+    weigh(weighed, xs, ys)
 }
 
 // The detector's filters likewise; the outputs of each strand's pitch filter go to `key_pitch` and `bed_pitch`.
 fn band(
-    key: Bands,
-    bed: Bands,
+    banded: Pair<Bands>,
     xs: &[f64; FRAME],
     ys: &[f64; FRAME],
     key_pitch: &mut [f64; FRAME],
     bed_pitch: &mut [f64; FRAME],
 ) -> BandedPairs
-    ensures { (result ≡ banded_of key bed xs.now ys.now) × (key_pitch.new ≡ outputs_of key xs.now)
-        × (bed_pitch.new ≡ outputs_of bed ys.now) }
+    ensures { (result ≡ banded_of banded.first banded.second xs.now ys.now) × (key_pitch.new ≡ outputs_of banded.first xs.now)
+        × (bed_pitch.new ≡ outputs_of banded.second ys.now) }
 {
-    let mut k = key;
-    let mut b = bed;
+    let mut k = banded.first;
+    let mut b = banded.second;
     for i in 0..FRAME {
         k = k.step(xs[i]);
         b = b.step(ys[i]);
@@ -177,22 +148,25 @@ fn band(
 // The detector's filters over a frame. Where a strand is in silence, each strand goes by itself.
 #[tactic(auto, unfolding(crate::specs::Pairs::banded_of, detector::specs::Filters::run_of))]
 fn band_frame(
-    key: Bands,
-    bed: Bands,
+    banded: Pair<Bands>,
     xs: &[f64; FRAME],
     ys: &[f64; FRAME],
     key_pitch: &mut [f64; FRAME],
     bed_pitch: &mut [f64; FRAME],
 ) -> BandedPairs
-    ensures { (result ≡ banded_of key bed xs.now ys.now) × (key_pitch.new ≡ outputs_of key xs.now)
-        × (bed_pitch.new ≡ outputs_of bed ys.now) }
+    ensures { (result ≡ banded_of banded.first banded.second xs.now ys.now) × (key_pitch.new ≡ outputs_of banded.first xs.now)
+        × (bed_pitch.new ≡ outputs_of banded.second ys.now) }
 {
+    let Pair {
+        first: key,
+        second: bed,
+    } = banded;
     if key.quiet(xs[0], xs) | bed.quiet(ys[0], ys) {
         let k = key.alone(xs, key_pitch);
         let b = bed.alone(ys, bed_pitch);
         return BandedPairs::of(k, b);
     }
-    band(key, bed, xs, ys, key_pitch, bed_pitch)
+    band(banded, xs, ys, key_pitch, bed_pitch)
 }
 
 // The level's and the detector's filters in one loop: neither waits for the other.
@@ -244,8 +218,8 @@ pub fn filter_frame(
 {
     if float::all_same(xs[0], xs) | float::all_same(ys[0], ys) {
         return Filtered {
-            weighed: weigh_frame(weighed.first, weighed.second, xs, ys),
-            banded: band_frame(banded.first, banded.second, xs, ys, key_pitch, bed_pitch),
+            weighed: weigh_frame(weighed, xs, ys),
+            banded: band_frame(banded, xs, ys, key_pitch, bed_pitch),
         };
     }
     filter(weighed, banded, xs, ys, key_pitch, bed_pitch)

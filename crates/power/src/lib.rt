@@ -31,7 +31,7 @@ const ROOTS: [u64; 24] = [
     1073747501, 1073744662, 1073743242, 1073742532, 1073742177, 1073742000, 1073741911, 1073741867,
 ];
 
-// The roots for the bits of a fraction, the half's first. An index into the constant itself would lay out the whole table each time.
+// The roots for the bits of a fraction, the half's first. A function, so that a contract says what the table is.
 #[tactic(auto, unfolding(crate::specs::Roots::roots))]
 fn all_roots() -> [u64; 24]
     ensures { result ≡ roots }
@@ -100,7 +100,7 @@ pub fn exp2(y: f64) -> f64
     }
 }
 
-// e^x. This and the two below differ in a constant alone, but a const parameter can't be a float.
+// e^x. This and the two below are a product and `exp2`, each with a definition of its own.
 #[tactic(auto, unfolding(crate::specs::Power::exp_of))]
 pub fn exp(x: f64) -> f64
     ensures { result ≡ exp_of x }

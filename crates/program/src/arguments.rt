@@ -1,10 +1,8 @@
 // What a program's arguments ask for: nothing more than its work, its help, or its one option, which takes a word. The first argument decides.
-ghost use Rattle.std.specs.Prelude.{◌≡◌};
-ghost use Rattle.io.specs.Counts.{IsPrefixLen};
+ghost use Rattle.std.specs.Prelude.{◌≡◌, ◌≤◌, length, IfSome};
 ghost use Rattle.program.specs.Arguments.{option_of, request_of};
 
 use std::env::FillError;
-use std::io::Write;
 use std::rt::Env;
 
 #[derive(Clone, Copy)]
@@ -30,15 +28,14 @@ pub fn count(env: &impl Env) -> usize {
         .count()
 }
 
-// Puts argument i at the start of `word`, and answers how many bytes it has there: 0 where there is none, and of one that is too long as many as
-// have room.
-pub fn get(env: &impl Env, i: usize, word: &mut [u8]) -> usize
-    ensures { IsPrefixLen result word.new }
+// Argument i, where there is one, which is put at the start of `word`: of one that is too long as many bytes as have room.
+pub fn get<'a>(env: &impl Env, i: usize, word: &'a mut [u8]) -> Option<&'a [u8]>
+    ensures { IfSome result (λ w. length w.now ≤ length word.old) }
 {
     match env.arg(i, word) {
-        Ok(n) => n,
-        Err(FillError::TooLong) => word.len(),
-        Err(FillError::NotPresent) => 0,
+        Ok(n) => Some(&word[..n]),
+        Err(FillError::TooLong) => Some(word),
+        Err(FillError::NotPresent) => None,
     }
 }
 
@@ -68,21 +65,4 @@ pub fn asked(count: usize, first: &[u8], name: &[u8]) -> Request
         _ if first == name => option(count),
         _ => Request::Unknown,
     }
-}
-
-// Says what is wrong with a word, behind the program's name: on standard error, which is `errors`. What can't be written is let go.
-pub fn refuse<E: Write>(errors: &mut E, program: &[u8], why: &[u8], word: &[u8]) {
-    let _ = errors.write_all(program);
-    let _ = errors.write_all(b": ");
-    let _ = errors.write_all(why);
-    let _ = errors.write_all(b" '");
-    let _ = errors.write_all(word);
-    let _ = errors.write_all(b"'");
-}
-
-// Ends such a line with where to read more.
-pub fn hint<E: Write>(errors: &mut E, program: &[u8]) {
-    let _ = errors.write_all(b" (");
-    let _ = errors.write_all(program);
-    let _ = errors.write_all(b" --help says what it takes)\n");
 }

@@ -2,6 +2,5 @@
 #![tactic(auto)]
 
 pub mod arguments;
+pub mod complaints;
 pub mod input;
-pub mod output;
-mod reason;

@@ -12,7 +12,7 @@ use Rattle.comis.specs.declared.mix_state.MixState.TheVariants.{ReleaseToUnity, 
 use Rattle.comis.specs.declared.loop_bank.Loops.{Loops}
 use Rattle.comis.specs.declared.engine.AutomixEngineConfig.{AutomixEngineConfig}
 use Rattle.comis.specs.MixState.{from_vad}
-use Rattle.comis.specs.LoopBank.{db, total_of, contributions_of}
+use Rattle.comis.specs.LoopBank.{db, zero_loops, total_of, contributions_of}
 use Rattle.float.specs.Arithmetic.{one64}
 use Rattle.comis.specs.Engine.{loop_config, active_target, process_tick}
 use Rattle.comis.specs.Rust.{LoopBank, AutomixEngine, set_config, reset, target_in, rust_process_tick, rust_process_fast, total_reduction}
@@ -22,7 +22,7 @@ use Rattle.ratio.specs.declared.Inputs.{Inputs}
 use Rattle.ratio.specs.declared.RatioStatus.{RatioStatus}
 use Rattle.ratio.specs.declared.Framed.{Framed}
 use Rattle.ratio.specs.Status.{rounded_of, reading_of, ratio_shown, config_of, status_of}
-use Rattle.ratio.specs.Frame.{frame_seconds, snapshot_of, tick_of, fast_of, zero_loops, disabled_frame, enabled_frame, frame_of}
+use Rattle.ratio.specs.Frame.{frame_seconds, snapshot_of, tick_of, fast_of, disabled_frame, enabled_frame, frame_of}
 use Rattle.ratio.specs.Lists.{answers_of, DuckStored, AllStored, none, more}
 use Rattle.ratio.specs.Rust as rust
 use Rattle.ratio.proofs.Equal.{eq-plus}

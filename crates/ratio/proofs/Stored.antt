@@ -6,13 +6,14 @@ use lib.Ieee.Bits.{of_bits-fits}
 use lib.Ieee.Fits.{and_l, and_r}
 use lib.Ieee.Scale.{finite}
 use Rattle.comis.specs.declared.loop_bank.Loops.{Loops}
+use Rattle.comis.specs.LoopBank.{zero_loops}
 use Rattle.comis.specs.Engine.{process_tick, process_fast}
 use Rattle.comis.specs.Loops.{LoopsFit, LoopsStored}
 use Rattle.comis.proofs.Fits.{tick-fits, fast-fits}
 use Rattle.ratio.specs.declared.Duck.{Duck}
 use Rattle.ratio.specs.declared.Inputs.{Inputs}
 use Rattle.ratio.specs.Finite.{finite_loops}
-use Rattle.ratio.specs.Frame.{zero_loops, enabled_frame, disabled_frame, frame_of}
+use Rattle.ratio.specs.Frame.{enabled_frame, disabled_frame, frame_of}
 use Rattle.ratio.proofs.Bounds.{told}
 
 zero-fits : LoopsFit zero_loops

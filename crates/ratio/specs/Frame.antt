@@ -10,7 +10,7 @@ use Rattle.comis.specs.declared.loop_bank.Loops.{Loops}
 use Rattle.comis.specs.declared.loop_bank.Updated.{Updated}
 use Rattle.comis.specs.declared.engine.LoudnessSnapshot.{LoudnessSnapshot}
 use Rattle.comis.specs.declared.engine.AutomixResult.{AutomixResult}
-use Rattle.comis.specs.LoopBank.{db, contributions_of}
+use Rattle.comis.specs.LoopBank.{db, zero_loops, contributions_of}
 use Rattle.comis.specs.Engine.{loop_config, process_tick, process_fast}
 use Rattle.ratio.specs.declared.Duck.{Duck}
 use Rattle.ratio.specs.declared.Inputs.{Inputs}
@@ -24,9 +24,6 @@ abbrev pub frame_seconds : Float
 frame_seconds = of_bits binary64 0x3f847ae147ae147b
 
 -- ---- disabled
-
-abbrev pub zero_loops : Loops
-zero_loops = record { slow = db zero64; mid = db zero64; fast = db zero64; hold_remaining_seconds = zero64 }
 
 -- the plain target, and nothing else to show
 abbrev pub disabled_status : Float → RatioStatus

@@ -3,10 +3,11 @@ use Rattle.std.specs.Prelude.{◌≡◌, List, T}
 use Rattle.std.specs.Float.Ieee.{le}
 use Rattle.float.specs.Arithmetic.{zero64}
 use Rattle.comis.specs.declared.loop_bank.Loops.{Loops}
+use Rattle.comis.specs.LoopBank.{zero_loops}
 use Rattle.comis.specs.Loops.{LoopsFit, LoopsStored}
 use Rattle.ratio.specs.declared.Duck.{Duck}
 use Rattle.ratio.specs.declared.Inputs.{Inputs}
-use Rattle.ratio.specs.Frame.{zero_loops, frame_of}
+use Rattle.ratio.specs.Frame.{frame_of}
 use Rattle.ratio.specs.Lists.{answers_of, DuckStored, AllStored}
 use Rattle.ratio.specs.Rust as rust
 

@@ -60,7 +60,8 @@ pub struct RatioStatus {
 }
 
 // A frame's answer, the loops after it, and whether all that it stores, answers or hands to a power is finite.
-// The flag stands beside the answer, and no Result: refusal 4 is tested after the other strand's work, and the answer is promised until then.
+// The flag stands beside the answer, and no Result: the answer is promised whatever it says, and refusal 4 tests these numbers together with those of
+// both strands (`Worked::judged` of `chain`).
 #[derive(Clone, Copy)]
 pub struct Framed {
     pub reduction: Db,
@@ -103,14 +104,16 @@ fn ratio_shown(dialogue: Lufs, bed: Lufs, reduction: Db) -> Shown
 }
 
 // The settings as the engine takes them.
-fn config(d: Duck) -> AutomixEngineConfig
-    ensures { result ≡ config_of d }
-{
-    AutomixEngineConfig {
-        target_ratio_lu: d.target_lu,
-        overvoice_ratio_lu: d.overvoice_lu,
-        max_gain_reduction_db: d.max_reduction_db,
-        speed: d.speed,
+impl From<Duck> for AutomixEngineConfig {
+    ghost from_gives = { λ d config. config ≡ config_of d };
+
+    fn from(d: Duck) -> AutomixEngineConfig {
+        AutomixEngineConfig {
+            target_ratio_lu: d.target_lu,
+            overvoice_ratio_lu: d.overvoice_lu,
+            max_gain_reduction_db: d.max_reduction_db,
+            speed: d.speed,
+        }
     }
 }
 
@@ -176,12 +179,7 @@ fn disabled(d: Duck) -> Framed
 {
     Framed {
         reduction: Db(0.0),
-        loops: Loops {
-            slow: Db(0.0),
-            mid: Db(0.0),
-            fast: Db(0.0),
-            hold_remaining_seconds: 0.0,
-        },
+        loops: Loops::new(),
         status: RatioStatus {
             state: MixState::ReleaseToUnity,
             reduction_db: Db(0.0),
@@ -202,7 +200,7 @@ fn disabled(d: Duck) -> Framed
 fn enabled(loops: Loops, d: Duck, i: Inputs) -> Framed
     ensures { result ≡ enabled_frame loops d i }
 {
-    let c = config(d);
+    let c = AutomixEngineConfig::from(d);
     let loudness = LoudnessSnapshot {
         bed_short_term_lufs: i.bed_short_term,
         bed_momentary_lufs: i.bed_momentary,

@@ -1,7 +1,7 @@
 // The decision against the recorded answers. A list: threshold, hold_ms, gate_lufs, count of frames; then for each frame 8 inputs
 // (probability, level_dbfs, 4 features, momentary, short_term), the 14 words of the answer, the frames left in the hold, and the speech
 // power as flag and value.
-use super::file::EndsEarly;
+use super::file::{EndsEarly, Words};
 use super::lists::List;
 use super::replay::Replay;
 use detector::{FeatureDetector, Features, Frame, Heard};
@@ -9,40 +9,47 @@ use float::Lufs;
 use level::{Level, Reading};
 use vad::{Decision, VadSettings};
 
-// The inputs of a frame.
-const GIVEN: usize = 8;
-
 #[derive(Clone, Copy)]
 pub struct Decisions {
     settings: VadSettings,
     decision: Decision,
 }
 
-fn heard(w: &[u64; GIVEN]) -> Heard {
+// What the detector answers, from its words.
+fn heard(words: [u64; 6]) -> Heard {
+    let [
+        probability,
+        level_dbfs,
+        over_floor_db,
+        modulation_db,
+        voicing,
+        anti,
+    ] = words.map(float::from_bits);
     Heard {
         detector: FeatureDetector::new(),
         frame: Frame {
-            probability: float::from_bits(w[0]),
-            level_dbfs: float::from_bits(w[1]),
+            probability,
+            level_dbfs,
             features: Features {
-                over_floor_db: float::from_bits(w[2]),
-                modulation_db: float::from_bits(w[3]),
-                voicing: float::from_bits(w[4]),
-                anti: float::from_bits(w[5]),
+                over_floor_db,
+                modulation_db,
+                voicing,
+                anti,
             },
         },
         finite: true,
     }
 }
 
-// The decision reads neither the power nor the fast loudness.
-fn loudness(w: &[u64; GIVEN]) -> level::Framed {
+// What the level answers, from its words. The decision reads neither the power nor the fast loudness.
+fn loudness(words: [u64; 2]) -> level::Framed {
+    let [momentary, short_term] = words.map(float::from_bits);
     level::Framed {
         level: Level::new(),
         reading: Reading {
             power: 0.0,
-            momentary: Lufs(float::from_bits(w[6])),
-            short_term: Lufs(float::from_bits(w[7])),
+            momentary: Lufs(momentary),
+            short_term: Lufs(short_term),
             fast: Lufs(0.0),
         },
         finite: true,
@@ -59,8 +66,8 @@ fn stored(d: Decision) -> [u64; 3] {
 }
 
 impl List for Decisions {
-    fn begin(replay: &mut Replay) -> Result<(Decisions, u64), EndsEarly> {
-        let [threshold, hold_ms, gate_lufs, count] = replay.words.array::<4>()?;
+    fn begin(words: &mut Words) -> Result<(Decisions, u64), EndsEarly> {
+        let [threshold, hold_ms, gate_lufs, count] = words.array::<4>()?;
         let decisions = Decisions {
             settings: words::strand_settings(threshold, hold_ms, gate_lufs),
             decision: Decision::new(),
@@ -69,18 +76,15 @@ impl List for Decisions {
     }
 
     fn step(&mut self, replay: &mut Replay, i: u64) -> Result<(), EndsEarly> {
-        let given = replay.words.array()?;
-        let f = vad::finish(
-            self.decision,
-            loudness(&given),
-            heard(&given),
-            self.settings,
-        );
+        let heard = heard(replay.words.array()?);
+        let loudness = loudness(replay.words.array()?);
+        let f = vad::finish(self.decision, loudness, heard, self.settings);
         self.decision = f.strand.decision;
-        replay.compare(i, &words::strand(f.state))?;
-        replay.compare(i, &stored(self.decision))?;
-        replay.accept(i, f.finite);
-        replay.count();
+        let mut answer = replay.answer(i);
+        answer.compare(&words::strand(f.state))?;
+        answer.compare(&stored(self.decision))?;
+        answer.accept(f.finite);
+        answer.count();
         Ok(())
     }
 }

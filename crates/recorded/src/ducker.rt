@@ -1,42 +1,47 @@
 // The ratio duck against the recorded answers. A list: count of frames; then for each frame the duck's 6 settings and 6 inputs, the 13
 // words of the answer and the 4 loops after it.
-use super::file::EndsEarly;
+use super::file::{EndsEarly, Words};
 use super::lists::List;
 use super::replay::Replay;
 use comis::loop_bank::Loops;
 use float::{Db, Lufs};
 use ratio::{Duck, Inputs};
 
-// The duck's settings.
-const SETTINGS: usize = 6;
-
-// The inputs of a frame.
-const INPUTS: usize = 6;
-
 #[derive(Clone, Copy)]
 pub struct Ducker {
     loops: Loops,
 }
 
-fn settings(w: &[u64; SETTINGS]) -> Duck {
+// The duck's settings from their words. A flag is on where its word is 1; a call's, of crate words, where it isn't 0.
+fn settings(w: [u64; 6]) -> Duck {
+    let [enabled, target, overvoice, max_reduction, speed, bed_voice] = w;
     Duck {
-        enabled: w[0] == 1,
-        target_lu: float::from_bits(w[1]),
-        overvoice_lu: float::from_bits(w[2]),
-        max_reduction_db: Db(float::from_bits(w[3])),
-        speed: float::from_bits(w[4]),
-        bed_voice: w[5] == 1,
+        enabled: enabled == 1,
+        target_lu: float::from_bits(target),
+        overvoice_lu: float::from_bits(overvoice),
+        max_reduction_db: Db(float::from_bits(max_reduction)),
+        speed: float::from_bits(speed),
+        bed_voice: bed_voice == 1,
     }
 }
 
-fn inputs(w: &[u64; INPUTS]) -> Inputs {
+// The inputs of a frame from their words.
+fn inputs(w: [u64; 6]) -> Inputs {
+    let [
+        key_voice,
+        target_voice,
+        dialogue_short_term,
+        bed_short_term,
+        bed_momentary,
+        bed_fast,
+    ] = w;
     Inputs {
-        key_voice: w[0] == 1,
-        target_voice: w[1] == 1,
-        dialogue_short_term: Lufs(float::from_bits(w[2])),
-        bed_short_term: Lufs(float::from_bits(w[3])),
-        bed_momentary: Lufs(float::from_bits(w[4])),
-        bed_fast: Lufs(float::from_bits(w[5])),
+        key_voice: key_voice == 1,
+        target_voice: target_voice == 1,
+        dialogue_short_term: Lufs(float::from_bits(dialogue_short_term)),
+        bed_short_term: Lufs(float::from_bits(bed_short_term)),
+        bed_momentary: Lufs(float::from_bits(bed_momentary)),
+        bed_fast: Lufs(float::from_bits(bed_fast)),
     }
 }
 
@@ -50,25 +55,21 @@ fn stored(l: Loops) -> [u64; 4] {
 }
 
 impl List for Ducker {
-    fn begin(replay: &mut Replay) -> Result<(Ducker, u64), EndsEarly> {
-        let loops = Loops {
-            slow: Db(0.0),
-            mid: Db(0.0),
-            fast: Db(0.0),
-            hold_remaining_seconds: 0.0,
-        };
-        Ok((Ducker { loops }, replay.words.word()?))
+    fn begin(words: &mut Words) -> Result<(Ducker, u64), EndsEarly> {
+        let loops = Loops::new();
+        Ok((Ducker { loops }, words.word()?))
     }
 
     fn step(&mut self, replay: &mut Replay, i: u64) -> Result<(), EndsEarly> {
-        let duck = settings(&replay.words.array()?);
-        let heard = inputs(&replay.words.array()?);
+        let duck = settings(replay.words.array()?);
+        let heard = inputs(replay.words.array()?);
         let f = ratio::frame(self.loops, duck, heard);
         self.loops = f.loops;
-        replay.compare(i, &words::status(f.reduction, f.status))?;
-        replay.compare(i, &stored(self.loops))?;
-        replay.accept(i, f.finite);
-        replay.count();
+        let mut answer = replay.answer(i);
+        answer.compare(&words::status(f.reduction, f.status))?;
+        answer.compare(&stored(self.loops))?;
+        answer.accept(f.finite);
+        answer.count();
         Ok(())
     }
 }

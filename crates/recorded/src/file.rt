@@ -31,10 +31,10 @@ impl fmt::Display for EndsEarly {
 pub fn read(rt: &HostRuntime, name: &str) -> io::Result<(Vec<u8>, Result<(), EndsEarly>)> {
     let mut file = File::open(rt, name)?;
     let mut bytes = Vec::new(rt.alloc());
-    let whole = match file.read_to_end(&mut bytes) {
-        Ok(_) => Ok(()),
-        Err(_) => Err(EndsEarly),
-    };
+    let whole = file
+        .read_to_end(&mut bytes)
+        .map(|_| ())
+        .map_err(|_| EndsEarly);
     Ok((bytes, whole))
 }
 
@@ -50,10 +50,8 @@ impl<'a> Words<'a> {
     pub fn new(file: &'a [u8]) -> Result<Words<'a>, EndsEarly>
         ensures { MatchResult result (λ words. words.left.now ≡ drop 256 file.now) (λ _. length file.now < 256) }
     {
-        match file.split_first_chunk::<TEXT>() {
-            Some((_, left)) => Ok(Words { left }),
-            None => Err(EndsEarly),
-        }
+        let (_, left) = file.split_first_chunk::<TEXT>().ok_or(EndsEarly)?;
+        Ok(Words { left })
     }
 
     pub fn is_at_end(&self) -> bool
@@ -65,13 +63,9 @@ impl<'a> Words<'a> {
     pub fn word(&mut self) -> Result<u64, EndsEarly>
         ensures { MatchResult result (λ w. (w ≡ from_le_bytes w64 (take 8 self.old.left.now)) × (self.new.left.now ≡ drop 8 self.old.left.now)) (λ _. length self.old.left.now < 8) }
     {
-        match self.left.split_first_chunk() {
-            Some((word, left)) => {
-                self.left = left;
-                Ok(u64::from_le_bytes(*word))
-            }
-            None => Err(EndsEarly),
-        }
+        let (word, left) = self.left.split_first_chunk().ok_or(EndsEarly)?;
+        self.left = left;
+        Ok(u64::from_le_bytes(*word))
     }
 
     // The next N words.

@@ -1,6 +1,6 @@
 // The six sections against the recorded outputs. A list: section, signal (3 words), count; then the outputs of the samples 0 to
 // count - 1 and the state after them, z1 and z2.
-use super::file::EndsEarly;
+use super::file::{EndsEarly, Words};
 use super::lists::List;
 use super::replay::Replay;
 use super::signal::Signal;
@@ -13,28 +13,22 @@ pub struct Filter {
     state: State,
 }
 
-// A section by its place in the image, as the file has it: shelf, high-pass, band pair, pitch pair. An enum would be made and matched here alone.
+// A section by its place in the image. An unknown place is the last one's.
 fn section(place: u64) -> Coefficients {
-    match place {
-        0 => biquad::K_SHELF,
-        1 => biquad::K_HIGH_PASS,
-        2 => biquad::BAND_HIGH_PASS,
-        3 => biquad::BAND_LOW_PASS,
-        4 => biquad::PITCH_1,
-        _ => biquad::PITCH_2,
-    }
+    let sections = biquad::sections();
+    sections[(place as usize).min(sections.len() - 1)]
 }
 
 impl List for Filter {
-    fn begin(replay: &mut Replay) -> Result<(Filter, u64), EndsEarly> {
-        let place = replay.words.word()?;
-        let signal = Signal::from(replay.words.array()?);
+    fn begin(words: &mut Words) -> Result<(Filter, u64), EndsEarly> {
+        let place = words.word()?;
+        let signal = Signal::from(words.array()?);
         let filter = Filter {
             section: section(place),
             signal,
             state: State::new(),
         };
-        Ok((filter, replay.words.word()?))
+        Ok((filter, words.word()?))
     }
 
     fn step(&mut self, replay: &mut Replay, i: u64) -> Result<(), EndsEarly> {
@@ -42,11 +36,11 @@ impl List for Filter {
             .state
             .tick(self.section, f64::from(self.signal.sample(i)));
         self.state = t.state;
-        replay.answer(i, &[float::to_bits(t.y)])
+        replay.compare(i, &[float::to_bits(t.y)])
     }
 
     fn end(&self, replay: &mut Replay, count: u64) -> Result<(), EndsEarly> {
-        replay.answer(
+        replay.compare(
             count,
             &[float::to_bits(self.state.z1), float::to_bits(self.state.z2)],
         )

@@ -4,8 +4,10 @@
 use super::file::EndsEarly;
 use super::replay::Replay;
 use super::strands::Strands;
-use super::{file, signal};
+use super::{file, replay, signal};
 use chain::{Answer, Chain, Changed};
+use layout::MOST;
+use level::FRAME;
 use refusal::Refusal;
 
 // Words of an answer.
@@ -14,11 +16,11 @@ const ANSWER: usize = 41;
 // Samples that the key of an odd frame has room for.
 const KEY: usize = 512;
 
-// Samples of a frame of eight channels.
-const BED_FRAME: usize = 3840;
+// Samples of a frame of as many channels as a bed has at most.
+const BED_FRAME: usize = FRAME * MOST;
 
 // Samples that the bed of an odd frame has room for: such a frame's, and one more.
-const BED: usize = 3841;
+const BED: usize = BED_FRAME + 1;
 
 #[derive(Clone, Copy)]
 enum Call {
@@ -37,7 +39,7 @@ enum Call {
     OddSurroundFrame,
 }
 
-// A call by its number in a recorded file.
+// A call by its number in a recorded file, which counts as ended at an unknown one.
 impl TryFrom<u64> for Call {
     type Error = EndsEarly;
 
@@ -56,6 +58,24 @@ impl TryFrom<u64> for Call {
     }
 }
 
+// The strand of which an odd frame replaces a sample.
+#[derive(Clone, Copy)]
+enum Strand {
+    Key,
+    Bed,
+}
+
+impl Strand {
+    // A strand by its number in a recorded file; none at another number, and no error as for a call, since no sample is replaced then.
+    fn numbered(number: u64) -> Option<Strand> {
+        match number {
+            0 => Some(Strand::Key),
+            1 => Some(Strand::Bed),
+            _ => None,
+        }
+    }
+}
+
 // The chain for the next call, and how many calls its list has had.
 #[derive(Clone, Copy)]
 struct Calls {
@@ -63,20 +83,9 @@ struct Calls {
     place: u64,
 }
 
-// 0 of what passed, else the refusal's number.
-fn code<T: Copy>(outcome: Result<T, Refusal>) -> u64 {
-    match outcome {
-        Ok(_) => 0,
-        Err(refusal) => refusal::number(refusal),
-    }
-}
-
 // The words of an answer. Zeros stand for those of a frame that the port refuses.
 fn answer_words(outcome: Result<Answer, Refusal>) -> [u64; ANSWER] {
-    match outcome {
-        Ok(answer) => words::answer(answer),
-        Err(_) => [0; ANSWER],
-    }
+    outcome.map_or([0; ANSWER], words::answer)
 }
 
 // Replaces a sample, where there is such a one, by the f32 whose bits are in a word.
@@ -111,13 +120,12 @@ impl Calls {
     ) -> Result<(), EndsEarly> {
         let f = self.chain.frame(key, bed);
         self.chain = f.chain;
-        let place = self.next();
-        let recorded = replay.words.word()?;
-        replay.judge(place, recorded, code(f.outcome));
+        let mut answer = replay.answer(self.next());
+        let recorded = answer.word(refusal::code(f.outcome))?;
         if whole && recorded == 0 {
-            replay.compare(place, &answer_words(f.outcome))?;
+            answer.compare(&answer_words(f.outcome))?;
         }
-        replay.count();
+        answer.count();
         Ok(())
     }
 
@@ -135,7 +143,7 @@ impl Calls {
         Ok(())
     }
 
-    // One frame of any lengths, in which a sample of the key (0) or of the bed (1) may be replaced.
+    // One frame of any lengths, in which a sample of a strand may be replaced.
     fn odd_frame(&mut self, replay: &mut Replay, strands: Strands) -> Result<(), EndsEarly> {
         let [first, key_length, bed_length, strand, at, sample] = replay.words.array::<6>()?;
         let mut key_room = [0.0; KEY];
@@ -144,10 +152,10 @@ impl Calls {
         let bed = bed_room.get_mut(..bed_length as usize).ok_or(EndsEarly)?;
         strands.key.fill(first, key);
         strands.fill_bed(first, bed);
-        match strand {
-            0 => replace(key, at, sample),
-            1 => replace(bed, at, sample),
-            _ => {}
+        match Strand::numbered(strand) {
+            Some(Strand::Key) => replace(key, at, sample),
+            Some(Strand::Bed) => replace(bed, at, sample),
+            None => {}
         }
         self.frame(replay, key, bed, true)
     }
@@ -155,7 +163,7 @@ impl Calls {
     // The code of a settings call, of a reset or of a layout call.
     fn changed(&mut self, replay: &mut Replay, c: Changed) -> Result<(), EndsEarly> {
         self.chain = c.chain;
-        replay.answer(self.next(), &[code(c.verdict)])
+        replay.compare(self.next(), &[refusal::code(c.outcome)])
     }
 
     fn set(&mut self, replay: &mut Replay) -> Result<(), EndsEarly> {
@@ -204,16 +212,11 @@ impl Calls {
     }
 }
 
-// All calls of a file.
-pub fn all(replay: &mut Replay) -> Result<(), EndsEarly> {
+// Replays the calls of the file with this name.
+pub fn module(rt: &HostRuntime, name: &str) {
     let mut calls = Calls::new();
-    // A `while` would have to be told that each turn reads a word; the count says that the loop ends.
-    for _ in 0..u64::MAX {
-        if replay.words.is_at_end() {
-            break;
-        }
+    replay::module(rt, name, "lists", "calls", |replay| {
         let call = Call::try_from(replay.words.word()?)?;
-        calls.call(replay, call)?;
-    }
-    Ok(())
+        calls.call(replay, call)
+    });
 }

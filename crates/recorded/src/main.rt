@@ -2,13 +2,12 @@
 #![tactic(auto)]
 
 mod decision;
-mod detector_frames;
 mod ducker;
 mod file;
 mod filter;
 mod frames;
+mod heard;
 mod kind;
-mod level_readings;
 mod lists;
 mod numbers;
 mod replay;
@@ -18,42 +17,31 @@ mod signals;
 mod strands;
 
 use decision::Decisions;
-use detector_frames::DetectorFrames;
+use detector::FeatureDetector;
 use ducker::Ducker;
 use filter::Filter;
-use level_readings::LevelReadings;
+use heard::Heard;
+use level::Level;
 
 fn main(rt: HostRuntime) {
-    numbers::replay(&rt, "numbers");
-    replay::module(
-        &rt,
-        "filter",
-        " signals, ",
-        " outputs, ",
-        lists::all::<Filter>,
-    );
+    numbers::all(&rt, "numbers");
+    replay::module(&rt, "filter", "signals", "outputs", lists::one::<Filter>);
     replay::module(
         &rt,
         "level",
-        " signals, ",
-        " readings, ",
-        lists::all::<LevelReadings>,
+        "signals",
+        "readings",
+        lists::one::<Heard<Level>>,
     );
     replay::module(
         &rt,
         "detector",
-        " signals, ",
-        " frames, ",
-        lists::all::<DetectorFrames>,
+        "signals",
+        "frames",
+        lists::one::<Heard<FeatureDetector>>,
     );
-    replay::module(
-        &rt,
-        "decision",
-        " lists, ",
-        " frames, ",
-        lists::all::<Decisions>,
-    );
-    replay::module(&rt, "ducker", " lists, ", " frames, ", lists::all::<Ducker>);
-    replay::module(&rt, "frames", " lists, ", " calls, ", frames::all);
-    replay::module(&rt, "surround", " lists, ", " calls, ", frames::all);
+    replay::module(&rt, "decision", "lists", "frames", lists::one::<Decisions>);
+    replay::module(&rt, "ducker", "lists", "frames", lists::one::<Ducker>);
+    frames::module(&rt, "frames");
+    frames::module(&rt, "surround");
 }

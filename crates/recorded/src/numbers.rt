@@ -1,11 +1,11 @@
 // The number functions against recorded cases of three words: the function's number, the argument's bits, the result's bits.
-use super::file;
 use super::file::{EndsEarly, Words};
+use super::replay;
 use super::replay::SHOWN;
 use std::fmt;
 use std::io::Stdout;
 
-// The functions in the order of their numbers, which begin at 1.
+// The functions in the order of their lines.
 const FUNCTIONS: [Function; 9] = [
     Function::Log2,
     Function::Log10,
@@ -18,17 +18,18 @@ const FUNCTIONS: [Function; 9] = [
     Function::Round,
 ];
 
+// The functions, each with its number in a recorded file.
 #[derive(Clone, Copy)]
 enum Function {
-    Log2,
-    Log10,
-    Exp2,
-    Exp,
-    Exp10,
-    Exp60,
-    Sqrt,
-    Narrow,
-    Round,
+    Log2 = 1,
+    Log10 = 2,
+    Exp2 = 3,
+    Exp = 4,
+    Exp10 = 5,
+    Exp60 = 6,
+    Sqrt = 7,
+    Narrow = 8,
+    Round = 9,
 }
 
 // The cases of a function, and how many of them differ.
@@ -116,26 +117,17 @@ impl Numbers {
         }
     }
 
-    // Compares the next case.
+    // Compares the next case. A loop and no `find`: of the tally that it lends nothing says that it is still the table's.
     fn case(&mut self, words: &mut Words) -> Result<(), EndsEarly> {
-        let [function, argument, recorded] = words.array::<3>()?;
-        // 0 is no function's number: its place is past the table.
-        match self.tallies.get_mut((function as usize).wrapping_sub(1)) {
-            Some(tally) => tally.compare(self.out, argument, recorded),
-            None => self.unknown = self.unknown.saturating_add(1),
-        }
-        Ok(())
-    }
-
-    fn all(&mut self, file: &[u8]) -> Result<(), EndsEarly> {
-        let mut words = Words::new(file)?;
-        // A `while` would have to be told that each turn reads a word; the count says that the loop ends.
-        for _ in 0..u64::MAX {
-            if words.is_at_end() {
-                break;
+        let [number, argument, recorded] = words.array::<3>()?;
+        let out = self.out;
+        for tally in &mut self.tallies {
+            if tally.function as u64 == number {
+                tally.compare(out, argument, recorded);
+                return Ok(());
             }
-            self.case(&mut words)?;
         }
+        self.unknown = self.unknown.saturating_add(1);
         Ok(())
     }
 
@@ -154,18 +146,8 @@ impl Numbers {
     }
 }
 
-pub fn replay(rt: &HostRuntime, name: &str) {
-    let out = rt.stdout();
-    let mut numbers = Numbers::new(out);
-    match file::read(rt, name) {
-        Ok((bytes, whole)) => {
-            if let Err(why) = numbers.all(bytes.as_slice()).and(whole) {
-                let _ = println!(out; "{name}: {why}");
-            }
-        }
-        Err(_) => {
-            let _ = println!(out; "{name}: no such file");
-        }
-    }
+pub fn all(rt: &HostRuntime, name: &str) {
+    let mut numbers = Numbers::new(rt.stdout());
+    let _ = replay::records(rt, name, |replay| numbers.case(&mut replay.words));
     numbers.print();
 }

@@ -1,6 +1,7 @@
 // What has been compared of a recorded file of lists of answers.
 use super::file;
 use super::file::{EndsEarly, Words};
+use std::fmt;
 use std::io::Stdout;
 
 // How many differing answers are shown.
@@ -11,9 +12,7 @@ pub struct Replay<'a> {
     out: Stdout,
     name: &'a str,
     pub words: Words<'a>,
-    pub counts: Counts,
-    word: u64, // how many words of the present answer were compared
-    wrong: bool, // whether one of them differs
+    counts: Counts,
 }
 
 #[derive(Clone, Copy, Default)]
@@ -23,15 +22,22 @@ pub struct Counts {
     differ: u64,
 }
 
+// An answer that is being compared with the file's next words.
+#[derive(Drop)]
+pub struct Answer<'r, 'a> {
+    replay: &'r mut Replay<'a>,
+    place: u64, // in its list, counted from 0
+    word: u64, // how many of its words were compared
+    wrong: bool, // whether it differs so far
+}
+
 impl<'a> Replay<'a> {
-    pub fn new(out: Stdout, name: &'a str, words: Words<'a>) -> Replay<'a> {
+    fn new(out: Stdout, name: &'a str, words: Words<'a>) -> Replay<'a> {
         Replay {
             out,
             name,
             words,
             counts: Counts::default(),
-            word: 0,
-            wrong: false,
         }
     }
 
@@ -40,105 +46,120 @@ impl<'a> Replay<'a> {
         self.counts.lists = self.counts.lists.saturating_add(1);
     }
 
-    // Shows where something differs. Lists and places are counted from 0.
-    fn show_place(&self, place: u64) {
-        let name = self.name;
-        let list = self.counts.lists.saturating_sub(1);
-        let _ = print!(self.out; "{name}: list {list}, place {place}");
-    }
-
-    // Compares a word that has been read with the computed one.
-    pub fn judge(&mut self, place: u64, recorded: u64, computed: u64) {
-        if recorded != computed {
-            if self.counts.differ < SHOWN {
-                let word = self.word;
-                self.show_place(place);
-                let _ = println!(self.out;
-                    ", word {word}: recorded {recorded:016x}, computed {computed:016x}"
-                );
-            }
-            self.wrong = true;
+    // The list's answer at a place.
+    pub fn answer(&mut self, place: u64) -> Answer<'_, 'a> {
+        Answer {
+            replay: self,
+            place,
+            word: 0,
+            wrong: false,
         }
-        self.word = self.word.saturating_add(1);
     }
 
-    // Compares the list's next words with those of a part of an answer. The place is shown where they differ.
-    pub fn compare(&mut self, place: u64, words: &[u64]) -> Result<(), EndsEarly> {
-        for computed in words {
-            let recorded = self.words.word()?;
-            self.judge(place, recorded, *computed);
+    // Lets `next` go over the file, a record at a time. That the closure can be called is asked, here and below, wherever it is handed on.
+    fn all<F: FnMut(&mut Replay<'a>) -> Result<(), EndsEarly>>(
+        &mut self,
+        mut next: F,
+    ) -> Result<(), EndsEarly>
+        requires { F.IsAlwaysCallable next }
+    {
+        // No `while`: nothing says that each turn reads a word. The count says that the loop ends.
+        for _ in 0..u64::MAX {
+            if self.words.is_at_end() {
+                break;
+            }
+            next(self)?;
         }
         Ok(())
     }
 
-    // The Rust accepted each recorded frame, so one that runs away differs.
-    pub fn accept(&mut self, place: u64, finite: bool) {
+    // Compares the list's next words with those of a whole answer.
+    pub fn compare(&mut self, place: u64, words: &[u64]) -> Result<(), EndsEarly> {
+        let mut answer = self.answer(place);
+        answer.compare(words)?;
+        answer.count();
+        Ok(())
+    }
+}
+
+impl<'r, 'a> Answer<'r, 'a> {
+    // It differs, as `how` says: that is shown while few have been. Lists are counted from 0.
+    fn differs(&mut self, how: impl fmt::Display + Drop) {
+        if self.replay.counts.differ < SHOWN {
+            let name = self.replay.name;
+            let list = self.replay.counts.lists.saturating_sub(1);
+            let place = self.place;
+            let _ = println!(self.replay.out; "{name}: list {list}, place {place}{how}");
+        }
+        self.wrong = true;
+    }
+
+    // The next recorded word, compared with the computed one.
+    pub fn word(&mut self, computed: u64) -> Result<u64, EndsEarly> {
+        let recorded = self.replay.words.word()?;
+        if recorded != computed {
+            let word = self.word;
+            self.differs(format_args!(
+                ", word {word}: recorded {recorded:016x}, computed {computed:016x}"
+            ));
+        }
+        self.word = self.word.saturating_add(1);
+        Ok(recorded)
+    }
+
+    // Compares the next words with a part of the computed ones.
+    pub fn compare(&mut self, words: &[u64]) -> Result<(), EndsEarly> {
+        for computed in words {
+            self.word(*computed)?;
+        }
+        Ok(())
+    }
+
+    // The Rust accepted each recorded frame, so one that runs away differs. A flag, as each step has it beside its values: its words are compared all the
+    // same.
+    pub fn accept(&mut self, finite: bool) {
         if !finite {
-            if self.counts.differ < SHOWN {
-                self.show_place(place);
-                let _ = println!(self.out; ": runs away");
-            }
-            self.wrong = true;
+            self.differs(": runs away");
         }
     }
 
     // The answer is whole.
-    pub fn count(&mut self) {
-        self.counts.answers = self.counts.answers.saturating_add(1);
-        self.counts.differ = self.counts.differ.saturating_add(u64::from(self.wrong));
-        self.word = 0;
-        self.wrong = false;
-    }
-
-    // Compares the list's next words with those of a whole answer.
-    pub fn answer(&mut self, place: u64, words: &[u64]) -> Result<(), EndsEarly> {
-        self.compare(place, words)?;
-        self.count();
-        Ok(())
-    }
-
-    // The same for frame i of a signal, where it is recorded: the first 50 are, then one in ten.
-    pub fn frame(&mut self, i: u64, words: &[u64], finite: bool) -> Result<(), EndsEarly> {
-        if i < 50 || i % 10 == 0 {
-            self.compare(i, words)?;
-            self.accept(i, finite);
-            self.count();
-        }
-        Ok(())
+    pub fn count(self) {
+        let Answer { replay, wrong, .. } = self;
+        replay.counts.answers = replay.counts.answers.saturating_add(1);
+        replay.counts.differ = replay.counts.differ.saturating_add(u64::from(wrong));
     }
 }
 
-// Lets `all` replay a file, as far as that goes, and puts into `counts` what came of it.
-fn count<F: FnOnce(&mut Replay) -> Result<(), EndsEarly>>(
+// Lets `next` replay a file, a record at a time, as far as that goes, and puts into `counts`, which is printed after an early end too, what came of it.
+fn replayed<F: FnMut(&mut Replay) -> Result<(), EndsEarly>>(
     out: Stdout,
     name: &str,
     file: &[u8],
-    all: F,
+    next: F,
     counts: &mut Counts,
 ) -> Result<(), EndsEarly>
-    requires { F.IsAlwaysCallable all }
+    requires { F.IsAlwaysCallable next }
 {
     let mut replay = Replay::new(out, name, Words::new(file)?);
-    let ended = all(&mut replay);
+    let ended = replay.all(next);
     *counts = replay.counts;
     ended
 }
 
-// Lets `all` replay the file of a module, and says what its lists and its answers came to.
-pub fn module<F: FnOnce(&mut Replay) -> Result<(), EndsEarly>>(
+// Lets `next` replay the file with this name, a record at a time, and says why where that doesn't come to the file's end. What was counted.
+pub fn records<F: FnMut(&mut Replay) -> Result<(), EndsEarly>>(
     rt: &HostRuntime,
     name: &str,
-    lists: &str,
-    answers: &str,
-    all: F,
-)
-    requires { F.IsAlwaysCallable all }
+    next: F,
+) -> Counts
+    requires { F.IsAlwaysCallable next }
 {
     let out = rt.stdout();
     let mut counts = Counts::default();
     match file::read(rt, name) {
         Ok((bytes, whole)) => {
-            if let Err(why) = count(out, name, bytes.as_slice(), all, &mut counts).and(whole) {
+            if let Err(why) = replayed(out, name, bytes.as_slice(), next, &mut counts).and(whole) {
                 let _ = println!(out; "{name}: {why}");
             }
         }
@@ -146,8 +167,22 @@ pub fn module<F: FnOnce(&mut Replay) -> Result<(), EndsEarly>>(
             let _ = println!(out; "{name}: no such file");
         }
     }
+    counts
+}
+
+// Lets `next` replay the file of a module, a record at a time, and says what its lists and its answers came to.
+pub fn module<F: FnMut(&mut Replay) -> Result<(), EndsEarly>>(
+    rt: &HostRuntime,
+    name: &str,
+    lists: &str,
+    answers: &str,
+    next: F,
+)
+    requires { F.IsAlwaysCallable next }
+{
+    let counts = records(rt, name, next);
     let list_count = counts.lists;
     let answer_count = counts.answers;
     let differ = counts.differ;
-    let _ = println!(out; "{name}: {list_count}{lists}{answer_count}{answers}{differ} differ");
+    let _ = println!(rt; "{name}: {list_count} {lists}, {answer_count} {answers}, {differ} differ");
 }

@@ -40,10 +40,12 @@ pub fn frame_start(first: u64, frames: u64) -> u64
 }
 
 impl Signal {
+    // Sample n. The difference is exact, the product rounded once.
+    #[tactic(auto, unfolding(crate::specs::Signals::sample_of))]
     pub fn sample(self, n: u64) -> f32
         ensures { result ≡ sample_of self.kind self.seed.value self.scale n }
     {
-        signals::sample(self.kind, self.seed, self.scale, n)
+        (signals::value(self.kind, self.seed, n) as f32 - 32768.0) * self.scale
     }
 
     // Fills a slice with samples, from sample `first` on.

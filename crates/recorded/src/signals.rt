@@ -1,7 +1,8 @@
 // Deterministic signals by whole-number arithmetic: the same as compare/src/signals.rs makes.
-// Sample n of a signal is (v - 32768) * scale, v = `value(kind, seed, n)` from 0 to 65536. The difference is exact, the product rounded once.
+// Each function says its bound, since the sums in `voice` and `value` need it: a type for a bounded number would be taken apart at each.
+// Sample n of a signal is (v - 32768) * scale, v = `value(kind, seed, n)` from 0 to 65536.
 ghost use Rattle.std.specs.Prelude.{◌≡◌, ◌<◌, ◌≤◌};
-ghost use Rattle.recorded.specs.Signals.{scrambled, noise_of, syllable_of, voice_of, sine_of, square_of, sawtooth_of, impulse_of, burst_of, value_of, sample_of};
+ghost use Rattle.recorded.specs.Signals.{scrambled, noise_of, syllable_of, voice_of, sine_of, square_of, sawtooth_of, impulse_of, burst_of, value_of};
 
 use super::kind::Kind;
 use super::seed::Seed;
@@ -119,12 +120,4 @@ pub fn value(kind: Kind, seed: Seed, n: u64) -> u64
         Kind::Impulses => impulse(seed, n),
         Kind::Bursts => burst(seed, n),
     }
-}
-
-// Sample n of a signal.
-#[tactic(auto, unfolding(crate::specs::Signals::sample_of))]
-pub fn sample(kind: Kind, seed: Seed, scale: f32, n: u64) -> f32
-    ensures { result ≡ sample_of kind seed.value scale n }
-{
-    (value(kind, seed, n) as f32 - 32768.0) * scale
 }

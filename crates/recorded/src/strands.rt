@@ -4,11 +4,11 @@ ghost use Rattle.std.specs.Prelude.{◌≡◌, ◌*◌, ◌≤◌, cond, nat_le}
 use super::file::{EndsEarly, Words};
 use super::signal;
 use super::signal::Signal;
+use layout::MOST;
 use level::FRAME;
 
-// The most channels of a bed.
-const MOST: usize = 8;
-
+// The number of channels stands beside the eight signals: a recorded call has eight, whatever its number of channels, which
+// may be one that no bed has.
 #[derive(Clone, Copy)]
 pub struct Strands {
     pub key: Signal,

@@ -1,5 +1,5 @@
 -- The specification's refusal table: the number of each refusal. 0 is none of them: the call passed.
-use Rattle.std.specs.Prelude.{◌≡◌, Bool, cond, List, [], ◌∷◌, ℕ}
+use Rattle.std.specs.Prelude.{◌≡◌, Bool, cond, List, [], ◌∷◌, ℕ, Result, Ok, Err}
 use Rattle.refusal.specs.declared.Refusal.{Refusal}
 use Rattle.refusal.specs.declared.Refusal.TheVariants.{ShortFrame, BadSample, BadSetting, Runaway, CounterFull, WrongLength, BadCheck, ForeignImage, NoStrand, BadLayout}
 
@@ -14,6 +14,11 @@ number_of BadCheck = 7
 number_of ForeignImage = 8
 number_of NoStrand = 9
 number_of BadLayout = 10
+
+-- the number of a call's outcome: 0 where it passed
+abbrev pub code_of : {T : Type 0} → Result T Refusal → ℕ
+code_of (Ok _) = 0
+code_of (Err r) = number_of r
 
 -- n is the number of a refusal
 abbrev pub InTable : ℕ → Type 0

@@ -2,7 +2,7 @@
 #![tactic(auto)]
 
 ghost use Rattle.std.specs.Prelude.{◌≡◌};
-ghost use Rattle.refusal.specs.Table.{number_of};
+ghost use Rattle.refusal.specs.Table.{code_of};
 
 // Why a call is turned away, by its number in the specification's table.
 #[derive(Clone, Copy, Debug, PartialEq, Eq)]
@@ -20,8 +20,20 @@ pub enum Refusal {
 }
 
 // The number of a refusal, 1 to 10.
-pub fn number(refusal: Refusal) -> u64
-    ensures { result ≡ number_of refusal }
+impl From<Refusal> for u64 {
+    ghost use Rattle.std.specs.Prelude.{◌≡◌};
+    ghost use Rattle.refusal.specs.Table.{number_of};
+
+    ghost from_gives = { λ refusal number. number ≡ number_of refusal };
+
+    fn from(refusal: Refusal) -> u64 {
+        refusal as u64
+    }
+}
+
+// What a call answers by its outcome: 0 where it passed, else the refusal's number.
+pub fn code<T: Copy>(outcome: Result<T, Refusal>) -> u64
+    ensures { result ≡ code_of outcome }
 {
-    refusal as u64
+    outcome.err().map_or(0, u64::from)
 }

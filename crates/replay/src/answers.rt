@@ -7,39 +7,31 @@ use std::io;
 // Words of the answer to a frame that passes.
 const WORDS: usize = 42;
 
-fn code(rt: &HostRuntime, n: u64) -> io::Result<()> {
-    rt.write_all(&n.to_le_bytes())
-}
-
+// The code of a frame that passed, 0, and the words of its answer, in one write.
 fn passed(rt: &HostRuntime, a: Answer) -> io::Result<()> {
     let mut answer = [0u64; WORDS];
     answer[1..].copy_from_slice(&words::answer(a));
     rt.write_all(answer.map(u64::to_le_bytes).as_flattened())
 }
 
+// A call's code: 0 where it passed, else the refusal's number. All that most calls are answered.
+pub fn code<T: Copy>(rt: &HostRuntime, outcome: Result<T, Refusal>) -> io::Result<()> {
+    rt.write_all(&refusal::code(outcome).to_le_bytes())
+}
+
 // What a frame got.
 pub fn frame(rt: &HostRuntime, outcome: Result<Answer, Refusal>) -> io::Result<()> {
     match outcome {
         Ok(a) => passed(rt, a),
-        Err(refusal) => code(rt, refusal::number(refusal)),
+        Err(_) => code(rt, outcome),
     }
 }
 
-// The same for a settings call, a reset, a layout call or a restore.
-pub fn verdict(rt: &HostRuntime, verdict: Result<(), Refusal>) -> io::Result<()> {
-    match verdict {
-        Ok(()) => code(rt, 0),
-        Err(refusal) => code(rt, refusal::number(refusal)),
-    }
-}
-
-// The same for a save into lent bytes, of which the first 11,264 are the image.
+// What a save into lent bytes got, of which the first 11,264 are the image where it passed.
 pub fn saved(rt: &HostRuntime, verdict: Result<(), Refusal>, lent: &[u8; IMAGE]) -> io::Result<()> {
-    match verdict {
-        Ok(()) => {
-            code(rt, 0)?;
-            rt.write_all(&lent[..image::BYTES])
-        }
-        Err(refusal) => code(rt, refusal::number(refusal)),
+    code(rt, verdict)?;
+    if verdict.is_ok() {
+        rt.write_all(&lent[..image::BYTES])?;
     }
+    Ok(())
 }

@@ -1,16 +1,14 @@
 // The calls of standard input. Nothing is read ahead of a call's end, so that its answer can be written before the next one is there. What the input
-// doesn't have is None.
-ghost use Rattle.std.specs.Prelude.{◌≡◌, ◌*◌, ◌^◌, ◌<◌, min, from_bits};
-ghost use Rattle.std.specs.Float.{binary32};
-ghost use Rattle.blocks.specs.Words.{word4};
+// doesn't have is an error, but that no call begins.
+ghost use Rattle.std.specs.Prelude.{◌≡◌, min};
 
-use blocks::little_endian::read4;
+use std::io::Read;
 
-// Samples that are kept of a strand: a frame's of eight channels, and one more.
-pub const STRAND: usize = 3841;
+// Samples that are kept of a strand: those of a bed of eight channels, and one more.
+pub const STRAND: usize = frame_bytes::BED + 1;
 
 // Their bytes.
-const BYTES: usize = 15364;
+const BYTES: usize = 4 * STRAND;
 
 // Bytes that are kept of an image: an image's, and one more.
 pub const IMAGE: usize = image::BYTES + 1;
@@ -18,60 +16,44 @@ pub const IMAGE: usize = image::BYTES + 1;
 // Words of the places that are kept of a layout: those of eight channels.
 pub const PLACES: usize = 24;
 
+// The input ends within a call, or can't be read on.
+#[derive(Clone, Copy)]
+pub struct Short;
+
 // Fills a slice.
-fn fill(rt: &HostRuntime, b: &mut [u8]) -> Option<()> {
-    (program::input::fill(&mut rt.stdin(), b) == b.len()).then_some(())
+fn fill(rt: &HostRuntime, b: &mut [u8]) -> Result<(), Short> {
+    rt.stdin().read_exact(b).map_err(|_| Short)
 }
 
 // The next N bytes.
-fn next<const N: usize>(rt: &HostRuntime) -> Option<[u8; N]> {
+fn next<const N: usize>(rt: &HostRuntime) -> Result<[u8; N], Short> {
     let mut b = [0u8; N];
     fill(rt, &mut b)?;
-    Some(b)
+    Ok(b)
 }
 
-// The letter that the next call begins with.
+// The letter that the next call begins with, where there is one.
 pub fn next_letter(rt: &HostRuntime) -> Option<u8> {
-    next(rt).map(u8::from_le_bytes)
+    next(rt).map(u8::from_le_bytes).ok()
 }
 
 // The next number of 32 bits.
-pub fn next_count(rt: &HostRuntime) -> Option<u32> {
+pub fn next_count(rt: &HostRuntime) -> Result<u32, Short> {
     next(rt).map(u32::from_le_bytes)
 }
 
 // The next number of 64 bits.
-pub fn next_word(rt: &HostRuntime) -> Option<u64> {
+pub fn next_word(rt: &HostRuntime) -> Result<u64, Short> {
     next(rt).map(u64::from_le_bytes)
 }
 
-// The next 12 words.
-pub fn next_words(rt: &HostRuntime) -> Option<[u64; 12]> {
-    let mut words = [0u64; 12];
+// The next N words.
+pub fn next_words<const N: usize>(rt: &HostRuntime) -> Result<[u64; N], Short> {
+    let mut words = [0u64; N];
     for w in &mut words {
         *w = next_word(rt)?;
     }
-    Some(words)
-}
-
-// The next `count` times three words, of which those of the first eight channels are kept.
-pub fn next_places(rt: &HostRuntime, count: u32) -> Option<[u64; PLACES]> {
-    let mut places = [0u64; PLACES];
-    for k in 0..3 * u64::from(count) {
-        let w = next_word(rt)?;
-        if k < 24 {
-            places[k as usize] = w;
-        }
-    }
-    Some(places)
-}
-
-// Sample k.
-fn sample(b: &[u8; BYTES], k: usize) -> f32
-    requires { k < 3841 }
-    ensures { result ≡ from_bits binary32 (word4 b.now (4 * k)) }
-{
-    float::from_bits32(read4(b, 4 * k))
+    Ok(words)
 }
 
 // How many of `count` are kept where there is room for `most`.
@@ -81,15 +63,24 @@ pub fn kept(count: u64, most: usize) -> usize
     count.min(most as u64) as usize
 }
 
-// Reads past bytes. A while, since the parts are of two lengths: as many as there is room for, and what is left at the end.
-fn skip(rt: &HostRuntime, b: &mut [u8; BYTES], count: u64) -> Option<()> {
-    let mut left = count;
-    while 0 < left {
-        let n = kept(left, BYTES);
-        fill(rt, &mut b[..n])?;
-        left -= n as u64;
+// Reads past bytes, as many at a time as there is room for.
+fn skip(rt: &HostRuntime, b: &mut [u8; BYTES], count: u64) -> Result<(), Short> {
+    for _ in 0..count / BYTES as u64 {
+        fill(rt, b)?;
     }
-    Some(())
+    fill(rt, &mut b[..(count % BYTES as u64) as usize])
+}
+
+// The next `count` times three words, of which those of the first eight channels are kept.
+pub fn next_places(rt: &HostRuntime, count: u32) -> Result<[u64; PLACES], Short> {
+    let mut places = [0u64; PLACES];
+    let count = 3 * u64::from(count);
+    let n = kept(count, PLACES);
+    for w in &mut places[..n] {
+        *w = next_word(rt)?;
+    }
+    skip(rt, &mut [0u8; BYTES], 8 * (count - n as u64))?;
+    Ok(places)
 }
 
 // The next strand, of which the first `kept(count, STRAND)` samples are kept: they are put at the start of `to`.
@@ -97,23 +88,25 @@ pub fn next_strand<'a>(
     rt: &HostRuntime,
     count: u32,
     to: &'a mut [f32; STRAND],
-) -> Option<&'a [f32]> {
+) -> Result<&'a [f32], Short> {
     let mut b = [0u8; BYTES];
     let count = u64::from(count);
     let n = kept(count, STRAND);
     fill(rt, &mut b[..4 * n])?;
-    for k in 0..n {
-        to[k] = sample(&b, k);
-    }
+    frame_bytes::read_samples(&b, &mut to[..n]);
     skip(rt, &mut b, 4 * (count - n as u64))?;
-    Some(&to[..n])
+    Ok(&to[..n])
 }
 
 // The next `count` bytes, of which the first `kept(count, IMAGE)` are kept: they are put at the start of `to`.
-pub fn next_image<'a>(rt: &HostRuntime, count: u64, to: &'a mut [u8; IMAGE]) -> Option<&'a [u8]> {
+pub fn next_image<'a>(
+    rt: &HostRuntime,
+    count: u64,
+    to: &'a mut [u8; IMAGE],
+) -> Result<&'a [u8], Short> {
     let mut b = [0u8; BYTES];
     let n = kept(count, IMAGE);
     fill(rt, &mut to[..n])?;
     skip(rt, &mut b, count - n as u64)?;
-    Some(&to[..n])
+    Ok(&to[..n])
 }

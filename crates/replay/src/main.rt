@@ -16,7 +16,7 @@ mod answers;
 mod input;
 
 use chain::{Chain, Changed};
-use input::{IMAGE, STRAND};
+use input::{IMAGE, STRAND, Short};
 use std::io::ErrorKind;
 use std::{fmt, io};
 
@@ -27,6 +27,12 @@ enum Failure {
     // The input ends within the call.
     Short,
     Unwritten(io::Error),
+}
+
+impl From<Short> for Failure {
+    fn from(_: Short) -> Failure {
+        Failure::Short
+    }
 }
 
 impl From<io::Error> for Failure {
@@ -57,10 +63,10 @@ impl fmt::Display for Stopped {
 fn frame(rt: &HostRuntime, chain: Chain) -> Result<Chain, Failure> {
     let mut key = [0.0f32; STRAND];
     let mut bed = [0.0f32; STRAND];
-    let key_count = input::next_count(rt).ok_or(Failure::Short)?;
-    let bed_count = input::next_count(rt).ok_or(Failure::Short)?;
-    let key = input::next_strand(rt, key_count, &mut key).ok_or(Failure::Short)?;
-    let bed = input::next_strand(rt, bed_count, &mut bed).ok_or(Failure::Short)?;
+    let key_count = input::next_count(rt)?;
+    let bed_count = input::next_count(rt)?;
+    let key = input::next_strand(rt, key_count, &mut key)?;
+    let bed = input::next_strand(rt, bed_count, &mut bed)?;
     let f = freightpetal::frame(chain, key, bed);
     answers::frame(rt, f.outcome)?;
     Ok(f.chain)
@@ -68,33 +74,33 @@ fn frame(rt: &HostRuntime, chain: Chain) -> Result<Chain, Failure> {
 
 // The answer to a settings call, a reset, a layout call or a restore.
 fn changed(rt: &HostRuntime, c: Changed) -> Result<Chain, Failure> {
-    answers::verdict(rt, c.verdict)?;
+    answers::code(rt, c.outcome)?;
     Ok(c.chain)
 }
 
 // S.
 fn set(rt: &HostRuntime, chain: Chain) -> Result<Chain, Failure> {
-    let w = input::next_words(rt).ok_or(Failure::Short)?;
+    let w = input::next_words(rt)?;
     changed(rt, freightpetal::set(chain, words::settings(&w)))
 }
 
 // R.
 fn reset(rt: &HostRuntime, chain: Chain) -> Result<Chain, Failure> {
-    let strand = input::next_word(rt).ok_or(Failure::Short)?;
+    let strand = input::next_word(rt)?;
     changed(rt, freightpetal::reset(chain, strand))
 }
 
 // B. Of more than eight channels the places of eight are kept, and the chain refuses the layout by its count.
 fn layout(rt: &HostRuntime, chain: Chain) -> Result<Chain, Failure> {
-    let count = input::next_count(rt).ok_or(Failure::Short)?;
-    let places = input::next_places(rt, count).ok_or(Failure::Short)?;
+    let count = input::next_count(rt)?;
+    let places = input::next_places(rt, count)?;
     let layout = words::layout(u64::from(count), &places);
     changed(rt, freightpetal::layout(chain, layout))
 }
 
 // V. Of a buffer of more than 11,265 bytes 11,265 are lent, and both are refused alike.
 fn save(rt: &HostRuntime, chain: Chain) -> Result<Chain, Failure> {
-    let count = input::next_count(rt).ok_or(Failure::Short)?;
+    let count = input::next_count(rt)?;
     let mut lent = [0u8; IMAGE];
     let n = input::kept(u64::from(count), IMAGE);
     let verdict = freightpetal::save(chain, &mut lent[..n]);
@@ -104,13 +110,13 @@ fn save(rt: &HostRuntime, chain: Chain) -> Result<Chain, Failure> {
 
 // L. Of more than 11,265 bytes 11,265 are kept, and the restore refuses both alike.
 fn restore(rt: &HostRuntime, chain: Chain) -> Result<Chain, Failure> {
-    let count = input::next_count(rt).ok_or(Failure::Short)?;
+    let count = input::next_count(rt)?;
     let mut bytes = [0u8; IMAGE];
-    let bytes = input::next_image(rt, u64::from(count), &mut bytes).ok_or(Failure::Short)?;
+    let bytes = input::next_image(rt, u64::from(count), &mut bytes)?;
     changed(rt, freightpetal::restore(chain, bytes))
 }
 
-// The call that begins with a letter.
+// The call that begins with a letter: a match, and no enum or table, since each letter has a function of its own and is looked at once, here.
 fn call(rt: &HostRuntime, chain: Chain, letter: u8) -> Result<Chain, Failure> {
     match letter {
         b'F' => frame(rt, chain),
@@ -126,6 +132,7 @@ fn call(rt: &HostRuntime, chain: Chain, letter: u8) -> Result<Chain, Failure> {
 // All calls, up to the one that isn't answered.
 fn calls(rt: &HostRuntime) -> Result<(), Stopped> {
     let mut chain = freightpetal::new();
+    // No `while`: nothing says that the input ends. The numbers say that the loop does.
     for number in 1..u64::MAX {
         let Some(letter) = input::next_letter(rt) else {
             break;

@@ -6,9 +6,7 @@ ghost use Rattle.float.specs.Kind.{InRange};
 ghost use Rattle.root.specs.Root.{root_of_units, sqrt_of};
 ghost use Rattle.root.specs.Steps.{IsRoot, Stepped, Near};
 
-use float::{Kind, Parts};
-
-const HIDDEN: u64 = 4503599627370496; // 2^52
+use float::{HIDDEN, Kind, Parts};
 
 const ONE: u64 = 4607182418800017408; // the bits of 1.0, 1023 * 2^52
 
@@ -151,7 +149,7 @@ fn root_of(p: Parts) -> f64
     f64::from_bits((t / 2 + 485) * HIDDEN + q)
 }
 
-// The square root: nearest, ties to even.
+// The square root: nearest, ties to even. std has `f64::sqrt`; these steps stay, since the must-fail edits of this crate are made in them.
 pub fn sqrt(x: f64) -> f64
     ensures { result ≡ sqrt_of x }
 {

@@ -40,7 +40,7 @@ use Rattle.float.specs.Arithmetic.{one64}
 use Rattle.ratio.specs.declared.Duck.{Duck}
 use Rattle.ratio.specs.declared.Inputs.{Inputs}
 use Rattle.ratio.specs.Lists.{DuckStored}
-use Rattle.comis.specs.LoopBank.{db}
+use Rattle.comis.specs.LoopBank.{db, zero_loops}
 use Rattle.ratio.specs.Status.{config_of}
 use Rattle.ratio.specs.Frame as frames
 use Rattle.ratio.specs.Rust as ratio
@@ -85,7 +85,7 @@ duck-stored d v = record {
 
 -- ---- fresh
 
-new-holds : (d : Duck) → DuckStored d → Holds (config_of d) (ratio.new d) frames.zero_loops
+new-holds : (d : Duck) → DuckStored d → Holds (config_of d) (ratio.new d) zero_loops
 unfolding ratio.new
 new-holds d p = record {
   releasing = false;

@@ -3,6 +3,7 @@ use mathlib.Core.Path.{◌≡◌, refl}
 use mathlib.Core.Bool.{Bool, true, false, not, cond, ◌&&◌, ◌||◌}
 use mathlib.Core.List.{List, [], ◌∷◌}
 use lib.Dec.{eqb}
+use Rattle.std.specs.Prelude.{Ok, Err}
 use lib.ListN.{length}
 use native.Mathlib.Omega.{arith}
 use Rattle.refusal.specs.declared.Refusal.TheVariants.{ShortFrame, BadSample, BadSetting, Runaway, CounterFull, NoStrand, BadLayout}
@@ -16,11 +17,9 @@ use Rattle.layout.specs.declared.Layout.{Layout}
 use Rattle.layout.specs.Layout.{layout_within}
 use Rattle.chain.specs.declared.Chain.{Chain}
 use Rattle.chain.specs.declared.Worked.{Worked}
-use Rattle.chain.specs.declared.Framed.{Framed}
-use Rattle.chain.specs.declared.Changed.{Changed}
 use Rattle.settings.specs.declared.Settings.{Settings}
 use Rattle.settings.specs.Settings.{call_ranges, outside_settings, stored_of}
-use Rattle.chain.specs.Chain.{work_of, refused_of, kept_of, answer_of, passed_of, finite_in, full_in, judged_of, bed_length, frame_of, changed, unchanged, with_settings, key_anew, bed_anew, laid_out, set_of, reset_of, layout_of}
+use Rattle.chain.specs.Chain.{Framed, Changed, work_of, refused_of, unless_refused, kept_of, answer_of, passed_of, finite_in, full_in, judged_of, bed_length, frame_of, changed, unchanged, with_settings, key_anew, bed_anew, laid_out, set_of, reset_of, layout_of}
 use Rattle.chain.specs.Valid.{Valid}
 use Rattle.rules.specs.Rules.{Event, frame, settings, reset, layout, shown, noted, frame_rows, settings_rows, reset_rows, layout_rows, frame_number, settings_number, reset_number, layout_number, refuses, next, answers, rules, after_frame, after_change, port}
 use Rattle.rules.proofs.AllFinite.{valid-finite}
@@ -44,7 +43,8 @@ module _ (c : Chain) (w : Worked) where
 
   abbrev pub framed : Bool → Bool → Bool → Bool → Bool → Bool → Framed
   framed x y p q f g =
-      cond (x && y) (cond (p && q) (cond f (cond g (refused_of c CounterFull) (passed_of c w)) (refused_of c Runaway)) (refused_of c BadSample)) (refused_of c ShortFrame)
+      unless_refused c (cond (x && y) (cond (p && q) (Ok tt) (Err BadSample)) (Err ShortFrame))
+      (unless_refused c (cond f (cond g (Err CounterFull) (Ok tt)) (Err Runaway)) (passed_of c w))
 
   frame_refused : (x y p q f g : Bool) → (first_number (rows x y p q f g) ≡ 0 → ⊥)
       → after_frame (framed x y p q f g) ≡ gets (refusal (first_number (rows x y p q f g))) [] c

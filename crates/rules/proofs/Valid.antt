@@ -18,9 +18,9 @@ use Rattle.vad.specs.declared.VadSettings.{VadSettings}
 use Rattle.vad.specs.Valid.{HoldWithin}
 use Rattle.vad.proofs.Valid as strand
 use Rattle.comis.specs.declared.loop_bank.Loops.{Loops}
+use Rattle.comis.specs.LoopBank.{zero_loops}
 use Rattle.comis.specs.Loops.{LoopsFit, LoopsStored}
 use Rattle.ratio.specs.declared.Duck.{Duck}
-use Rattle.ratio.specs.Frame.{zero_loops}
 use Rattle.ratio.proofs.Stored.{frame_stored}
 use Rattle.settings.specs.declared.Ranges.{Ranges}
 use Rattle.settings.specs.declared.Settings.{Settings}

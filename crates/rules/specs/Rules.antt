@@ -15,11 +15,9 @@ use Rattle.ratio.specs.declared.Duck.{Duck}
 use Rattle.settings.specs.declared.Settings.{Settings}
 use Rattle.chain.specs.declared.Chain.{Chain}
 use Rattle.chain.specs.declared.Answer.{Answer}
-use Rattle.chain.specs.declared.Framed.{Framed}
-use Rattle.chain.specs.declared.Changed.{Changed}
 use Rattle.settings.specs.Settings.{call_ranges, outside_settings, stored_of}
 use Rattle.chain.specs.Numbers.{numbers_of}
-use Rattle.chain.specs.Chain.{fresh_of, work_of, kept_of, answer_of, finite_in, full_in, bed_length, with_settings, key_anew, bed_anew, laid_out, frame_of, set_of, reset_of, layout_of}
+use Rattle.chain.specs.Chain.{Framed, Changed, fresh_of, work_of, kept_of, answer_of, finite_in, full_in, bed_length, with_settings, key_anew, bed_anew, laid_out, frame_of, set_of, reset_of, layout_of}
 
 -- ---- what may be sent
 
@@ -141,7 +139,7 @@ abbrev pub after_frame : Framed → calls.Step Chain Answered
 after_frame f = calls.gets (reply_of f.outcome) [] f.chain
 
 abbrev pub after_change : Changed → calls.Step Chain Answered
-after_change f = calls.gets (noted_of f.verdict) [] f.chain
+after_change f = calls.gets (noted_of f.outcome) [] f.chain
 
 abbrev pub port : calls.Port rules (calls.event_calls rules)
 port c (frame key bed) = after_frame (frame_of c key bed)

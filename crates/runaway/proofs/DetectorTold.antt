@@ -1,6 +1,6 @@
 -- The detector's flag against the lists: what it says of the powers, the variance, the lags' products and the pitch outputs, and that it holds where
 -- they and the stored numbers are finite. The lags' flag is that of their products, by induction on the lags.
-use Rattle.sequence.specs.Latest.{push_of}
+use Rattle.sequence.specs.Latest.{keep_of, push_of}
 use Rattle.std.specs.Prelude.{option_to_list}
 use Prim.Native.Nat.{ℕ, zero, suc, ◌+◌}
 use native.Mathlib.Omega.{arith}
@@ -21,7 +21,7 @@ use Rattle.detector.specs.declared.filters.Bands.{Bands}
 use Rattle.detector.specs.declared.floor.Floor.{Floor}
 use Rattle.detector.specs.declared.FeatureDetector.{FeatureDetector}
 use Rattle.detector.specs.declared.Heard.{Heard}
-use Rattle.detector.specs.Filters.{begun, states_of, run_of, outputs_of, eighths, kept_of, keep_of}
+use Rattle.detector.specs.Filters.{begun, states_of, run_of, outputs_of, eighths, kept_of}
 use Rattle.detector.specs.Floor.{next_of, stored_of, floor_of}
 use Rattle.detector.specs.Modulation.{modulation_of}
 use Rattle.detector.specs.Voicing.{tiny, energy_of, correlation_of, energies_at, with_ratio, without, turn_of, lag_of, lags_of, silent, ends_of, start_of, uneven_of, window_of, voicing_of}

@@ -6,6 +6,8 @@ pub mod Deque
 pub mod Newest
 pub mod Series
 pub mod Places
+pub mod Held
+pub mod Room
 pub mod Counted
 pub mod All
 pub mod Tests

@@ -22,7 +22,7 @@ use float::{Db, Lufs, SILENCE_LUFS};
 use ratio::Duck;
 use vad::VadSettings;
 
-// From low to high, both ends allowed.
+// From low to high, both ends allowed. No `RangeInclusive`: that isn't Copy, since it is an iterator too.
 #[derive(Clone, Copy)]
 pub struct Range {
     pub low: f64,
@@ -70,7 +70,7 @@ const SPEED: Range = Range {
     high: 100.0,
 };
 
-// What a settings call may bring. This table and the next are kept apart on purpose: what a call may bring and what an image may hold may come to differ.
+// What a settings call may bring. This table and the next are two, as in specs/: outside the one is refusal 3, outside the other refusal 8.
 const CALL_RANGES: Ranges = Ranges {
     threshold: THRESHOLD,
     hold_ms: HOLD_MS,

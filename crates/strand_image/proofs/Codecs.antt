@@ -7,8 +7,8 @@ use lib.Dec.{T, lit<, lit≤}
 use lib.Ieee.{binary64, to_bits, of_bits}
 use Rattle.blocks.proofs.Lists.{below-replicate}
 use Rattle.codec.specs.Fields.{zero_of}
-use Rattle.codec.specs.Codec.{CellLaws, CodecLaws}
-use Rattle.codec.specs.Forms.{f64, below, flag, one, fixed, pair}
+use Rattle.codec.specs.Codec.{Cell, CellLaws, CodecLaws}
+use Rattle.codec.specs.Forms.{f64, f32, below, flag, one, fixed, pair}
 use Rattle.codec.proofs.Kept.{zero-num}
 use Rattle.codec.proofs.Forms.{f64-laws, f32-laws, below_laws, flag-laws, one_laws, fixed_laws, pair-laws, as_a-laws, also-laws, counted-laws, maybe-laws}
 use Rattle.strand_image.specs.Strand.{state, filters, powers, decimated, latest, minima, history, window_rule, window, floor, counts_rule, from_counts, to_counts, counts, decision, front, strand}
@@ -28,22 +28,21 @@ filters-laws = as_a-laws _ _ (λ a. refl) (λ b. refl) (pair-laws state-laws (pa
 
 -- ---- lists
 
-pub latest-laws : (n : ℕ) → n < 2 ^ 64 → CodecLaws (latest n)
+pub latest-laws : {A : Type 0} (c : Cell A) → CellLaws c → (n : ℕ) → n < 2 ^ 64 → CodecLaws (latest c n)
 unfolding latest
-latest-laws n h = as_a-laws _ _ (λ a. refl) (λ b. refl) (counted-laws f64-laws n h)
+latest-laws c laws n h = as_a-laws _ _ (λ a. refl) (λ b. refl) (counted-laws laws n h)
 
 pub powers-laws : CodecLaws powers
-powers-laws = latest-laws 300 (lit< tt)
+powers-laws = latest-laws f64 f64-laws 300 (lit< tt)
 
 pub minima-laws : CodecLaws minima
-minima-laws = latest-laws 8 (lit< tt)
+minima-laws = latest-laws f64 f64-laws 8 (lit< tt)
 
 pub history-laws : CodecLaws history
-history-laws = latest-laws 40 (lit< tt)
+history-laws = latest-laws f64 f64-laws 40 (lit< tt)
 
 pub decimated-laws : CodecLaws decimated
-unfolding decimated
-decimated-laws = as_a-laws _ _ (λ a. refl) (λ b. refl) (counted-laws f32-laws 240 (lit< tt))
+decimated-laws = latest-laws f32 f32-laws 240 (lit< tt)
 
 -- ---- the noise floor
 

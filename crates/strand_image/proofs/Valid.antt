@@ -23,7 +23,7 @@ use Rattle.detector.specs.Valid.{FiltersValid, FloorValid}
 use Rattle.vad.specs.declared.Decision.{Decision}
 use Rattle.vad.specs.declared.Strand.{Strand}
 use Rattle.vad.specs.Valid.{DecisionValid, Valid}
-use Rattle.strand_image.specs.Strand.{state, filters, powers, decimated, latest, window_rule, window, floor, counts, decision, front, strand}
+use Rattle.strand_image.specs.Strand.{state, filters, latest, window_rule, window, floor, counts, decision, front, strand}
 use Rattle.strand_image.proofs.Codecs.{zero_bits}
 
 -- ---- filters
@@ -139,7 +139,7 @@ valid-decision d v = (
 -- ---- the strand
 
 pub strand-valid : (s : Strand) → strand.Ok s → Valid s
-unfolding strand decimated latest
+unfolding strand latest
 strand-valid s ok =
     let f = front-valid s.level s.detector.filters ok.0 in
     record {
@@ -149,7 +149,7 @@ strand-valid s ok =
     }
 
 pub valid-strand : (s : Strand) → Valid s → strand.Ok s
-unfolding strand decimated latest
+unfolding strand latest
 valid-strand s v = (
   valid-front s.level s.detector.filters v.level v.detector.filters,
   (v.detector.decimated, (valid-floor s.detector.floor v.detector.floor, (v.detector.history, valid-decision s.decision v.decision))),

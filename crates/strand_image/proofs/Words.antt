@@ -286,7 +286,7 @@ module _ (l : List ℕ) (s : Words l) where
   size-front = refl
 
   size-decimated : decimated.size ≡ 241
-  unfolding decimated
+  unfolding latest
   size-decimated = refl
 
   size-floor : floor.size ≡ 13
@@ -312,7 +312,7 @@ module _ (l : List ℕ) (s : Words l) where
       )
 
   decimated-words : (i : ℕ) → Iff (Reads decimated l i) (ListWords Finite32 240 l i)
-  unfolding decimated
+  unfolding latest
   decimated-words i = list_words32 240 i
 
   history-words : (i : ℕ) → Iff (Reads history l i) (ListWords Finite64 40 l i)

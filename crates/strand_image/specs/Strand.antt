@@ -4,12 +4,12 @@ use Rattle.std.specs.Prelude.{Bool, false, not, ◌||◌, ℕ, ◌+◌, replicat
 use Rattle.std.specs.Float.{binary64}
 use Rattle.std.specs.Float.Ieee.{to_bits}
 use Rattle.codec.specs.Fields.{zero_of, flag_bits}
-use Rattle.codec.specs.Codec.{Codec}
+use Rattle.codec.specs.Codec.{Cell, Codec}
 use Rattle.codec.specs.Forms.{f64, f32, below, flag, one, fixed, pair, as_a, also, counted, maybe}
 use Rattle.biquad.specs.declared.State.{State}
 use Rattle.level.specs.declared.Level.{Level}
 use Rattle.detector.specs.declared.filters.Filters.{Filters}
-use Rattle.detector.specs.declared.filters.Decimated.{Decimated}
+use Rattle.detector.specs.Filters.{Decimated}
 use Rattle.detector.specs.declared.floor.Floor.{Floor}
 use Rattle.vad.specs.declared.Decision.{Decision}
 use Rattle.vad.specs.declared.Strand.{Strand}
@@ -31,20 +31,20 @@ filters = as_a (λ f. (f.high_pass, (f.low_pass, (f.pitch1, f.pitch2))))
 
 -- ---- lists: a count, and the values, oldest first
 
-unfoldable pub latest : (n : ℕ) → Codec (Latest n)
-latest n = as_a (λ s. (s.count, s.list)) (λ p. record { count = p.0; list = p.1 }) (counted f64 n)
+unfoldable pub latest : {A : Type 0} → Cell A → (n : ℕ) → Codec (Latest A n)
+latest c n = as_a (λ s. (s.count, s.list)) (λ p. record { count = p.0; list = p.1 }) (counted c n)
 
-abbrev pub powers : Codec (Latest 300)
-powers = latest 300
+abbrev pub powers : Codec (Latest Float 300)
+powers = latest f64 300
 
-abbrev pub minima : Codec (Latest 8)
-minima = latest 8
+abbrev pub minima : Codec (Latest Float 8)
+minima = latest f64 8
 
-abbrev pub history : Codec (Latest 40)
-history = latest 40
+abbrev pub history : Codec (Latest Float 40)
+history = latest f64 40
 
-unfoldable pub decimated : Codec Decimated
-decimated = as_a (λ s. (s.count, s.list)) (λ p. record { count = p.0; list = p.1 }) (counted f32 240)
+abbrev pub decimated : Codec Decimated
+decimated = latest f32 240
 
 -- ---- the noise floor
 

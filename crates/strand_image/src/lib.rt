@@ -7,7 +7,6 @@ ghost use Rattle.codec.specs.Run.{Run};
 ghost use Rattle.strand_image.specs.Strand.{
   state,
   filters,
-  decimated,
   latest,
   window,
   floor,
@@ -18,7 +17,8 @@ ghost use Rattle.strand_image.specs.Strand.{
 };
 
 use biquad::State;
-use detector::{Decimated, FeatureDetector, Filters, Floor};
+use codec::Coded;
+use detector::{FeatureDetector, Filters, Floor};
 use level::Level;
 use sequence::Latest;
 use vad::{Decision, Strand};
@@ -46,7 +46,7 @@ const COUNTS: u64 = 0x1_0000_0000; // onsets and offsets are below it
 
 const HOLD: u64 = 6001; // frames: a hold is below it
 
-// The open window of the noise floor: its minimum and its frames.
+// The open window of the noise floor: its minimum and its frames. No Option, for the reason at `detector::Floor`.
 #[derive(Clone, Copy)]
 struct Window {
     least: f64,
@@ -64,7 +64,9 @@ struct Counts {
 
 // ---- writing, from place `at` on
 //
-// Each function says how far its words reach, so that their places fit a usize: a type for a place would have to say it at each step.
+// Each function says how far its words reach, so that their places fit a usize: a type for a place, or the slice from it on, would need the
+// same bound at each sum. A function for each type and no trait: nothing here is generic over these types, as rows are in `surround_image`. What is widened
+// by `as` fits: with `From` the proof has a call more at each.
 
 fn put_state(w: &mut [u64], at: usize, s: State)
     requires { at + 4 ≤ 2 ^ 64 }
@@ -75,7 +77,7 @@ fn put_state(w: &mut [u64], at: usize, s: State)
     codec::put_zeros(w, at + 2, 2);
 }
 
-// The words of a filter, from place `at` on; what has no place in w is dropped.
+// The words of a filter, from place `at` on; what has no place in w is dropped. A u32, here and at `get_filter`, so that nothing is asked of a caller.
 pub fn put_filter(w: &mut [u64], at: u32, s: State)
     ensures { Run w.old at 4 (state.enc s) w.new }
 {
@@ -92,15 +94,8 @@ fn put_filters(w: &mut [u64], at: usize, f: Filters)
     put_state(w, at + 12, f.pitch2);
 }
 
-// Samples are f32, and the latest values f64.
-fn put_decimated(w: &mut [u64], at: usize, p: Decimated)
-    ensures { Run w.old at 241 (decimated.enc p) w.new }
-{
-    codec::put_list(w, at, p.count, &p.list);
-}
-
-fn put_latest<const N: usize>(w: &mut [u64], at: usize, p: Latest<N>)
-    ensures { Run w.old at (suc N) ((latest N).enc p.entry) w.new }
+fn put_latest<T: Coded, const N: usize>(w: &mut [u64], at: usize, p: Latest<T, N>)
+    ensures { Run w.old at (suc N) ((latest T.cell N).enc p) w.new }
 {
     codec::put_list(w, at, p.count, &p.list);
 }
@@ -139,13 +134,13 @@ fn put_front(w: &mut [u64], at: usize, l: Level, f: Filters)
     put_latest(w, at + POWERS, l.powers);
 }
 
-// The words of a strand, from place `at` on; what has no place in w is dropped.
+// The words of a strand, from place `at` on; what has no place in w is dropped. A u16, here and at `get_strand`, for the reason at `put_filter`.
 pub fn put_strand(w: &mut [u64], at: u16, s: Strand)
     ensures { Run w.old at 628 (strand.enc s) w.new }
 {
     let i = at as usize;
     put_front(w, i, s.level, s.detector.filters);
-    put_decimated(w, i + DECIMATED, s.detector.decimated);
+    put_latest(w, i + DECIMATED, s.detector.decimated);
     put_floor(w, i + FLOOR, s.detector.floor);
     put_latest(w, i + HISTORY, s.detector.history);
     put_decision(w, i + DECISION, s.decision);
@@ -185,18 +180,10 @@ fn get_filters(w: &[u64], at: usize) -> Filters
     }
 }
 
-fn get_decimated(w: &[u64], at: usize) -> Decimated
-    ensures { result ≡ decimated.dec w.now at }
+fn get_latest<T: Coded, const N: usize>(w: &[u64], at: usize) -> Latest<T, N>
+    ensures { result ≡ (latest T.cell N).dec w.now at }
 {
-    let mut list: [f32; 240] = [0.0; 240];
-    let count = codec::get_list(w, at, &mut list);
-    Decimated { count, list }
-}
-
-fn get_latest<const N: usize>(w: &[u64], at: usize) -> Latest<N>
-    ensures { result ≡ (latest N).dec w.now at }
-{
-    let mut list = [0.0; N];
+    let mut list = [T::blank(); N];
     let count = codec::get_list(w, at, &mut list);
     Latest { count, list }
 }
@@ -286,7 +273,7 @@ pub fn get_strand(w: &[u64], at: u16) -> Strand
     let filters = get_filters(w, i + FILTERS);
     let fast = codec::get(w, i + FAST);
     let powers = get_latest(w, i + POWERS);
-    let decimated = get_decimated(w, i + DECIMATED);
+    let decimated = get_latest(w, i + DECIMATED);
     let floor = get_floor(w, i + FLOOR);
     let history = get_latest(w, i + HISTORY);
     let decision = get_decision(w, i + DECISION);

@@ -17,6 +17,7 @@ use Rattle.strand_image.proofs.Codecs.{state-laws}
 use Rattle.layout.specs.Layout.{most, size_of, blank}
 use Rattle.channels.specs.Channels.{resting}
 use Rattle.channels.specs.Surround.{other_channels}
+pub use Rattle.surround_image.specs.Sizes.{place-size, channel-size}
 use Rattle.surround_image.specs.Surround.{angle_rule, angle, place_rule, place, channel, count_rule, count, parts, surround}
 
 -- ---- where a channel is
@@ -67,10 +68,6 @@ pub blank_ok : place.Ok blank
 unfolding place
 blank_ok = (ahead_ok, tt)
 
-pub place-size : place.size ≡ 3
-unfolding place
-place-size = refl
-
 -- ---- a channel's numbers
 
 pub channel-laws : CodecLaws channel
@@ -80,10 +77,6 @@ channel-laws = as_a-laws _ _ (λ a. refl) (λ b. refl) (pair-laws state-laws (pa
 pub resting_ok : channel.Ok resting
 unfolding channel state
 resting_ok = ((zero-num binary64, (zero-num binary64, tt)), ((zero-num binary64, (zero-num binary64, tt)), zero-num binary64))
-
-pub channel-size : channel.size ≡ 9
-unfolding channel state
-channel-size = refl
 
 -- ---- all of them
 

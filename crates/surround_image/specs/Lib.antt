@@ -1,2 +1,3 @@
 pub mod Surround
 pub mod Words
+pub mod Sizes

@@ -2,12 +2,12 @@
 // written, and read back. Words that break a rule are read as some good channels, whose words differ from those read.
 #![tactic(auto)]
 
-ghost use Rattle.std.specs.Prelude.{◌≡◌, ◌+◌, ◌^◌, ◌≤◌, get_or};
+ghost use Rattle.std.specs.Prelude.{◌≡◌, ℕ, ◌+◌, ◌*◌, ◌^◌, ◌≤◌, length, get_or};
+ghost use Rattle.blocks.specs.Lists.{table};
 ghost use Rattle.layout.specs.Layout.{blank};
 ghost use Rattle.channels.specs.Channels.{resting};
 ghost use Rattle.codec.specs.Run.{Run};
-ghost use Rattle.codec.specs.Codec.{rows_enc};
-ghost use Rattle.codec.specs.Forms.{rows};
+ghost use Rattle.codec.specs.Codec.{Codec, rows_enc, row_at};
 ghost use Rattle.surround_image.specs.Surround.{
   angle,
   place,
@@ -15,19 +15,17 @@ ghost use Rattle.surround_image.specs.Surround.{
   count,
   surround,
 };
+ghost use Rattle.surround_image.specs.Sizes.{place-size, channel-size};
 
 use channels::{Channel, Surround};
-use layout::{Layout, Place};
+use layout::{CENTRE, Layout, Place};
 
 // Where the parts begin; the count is the first.
-const PLACES: u32 = 1;
+const PLACES: usize = 1;
 
-const OTHERS: u32 = 25;
+const OTHERS: usize = 25;
 
-const PLACE_WORDS: usize = 3;
-
-const CHANNEL_WORDS: u32 = 9;
-
+// What an image may hold; what a call may bring is `Place::within`'s, and may come to differ.
 const AZIMUTH: u64 = 180; // degrees: at most, on either side
 
 const ELEVATION: u64 = 90;
@@ -36,58 +34,105 @@ const FLAG: u64 = 2; // a flag is below it
 
 const COUNT: u64 = 9; // the number of channels is below it
 
-// ---- writing, from place `at` on
+// ---- values of several words, from place `at` on
 //
-// Each function says how far its words reach, so that their places fit: a type for a place would have to say it at each step.
+// Each function says how far its words reach, so that their places fit: a type for a place, or the slice from it on, would need the same bound at each
+// sum. The bound is that of a place of `strand_image`'s filters, a u32.
 
-fn put_place(w: &mut [u64], at: usize, p: Place)
-    requires { at + 3 ≤ 2 ^ 64 }
-    ensures { Run w.old at 3 (place.enc p) w.new }
-{
-    codec::put(w, at, p.azimuth);
-    codec::put(w, at + 1, p.elevation);
-    codec::put(w, at + 2, p.lfe);
+// A value of so many words: how it is written and read, and what stands in an unused place. A trait of this crate, since one of `codec` can't be
+// given to a type of `layout` or `channels` here.
+trait Part: Copy {
+    ghost codec: { Codec Self };
+
+    ghost unused: { Self };
+
+    ghost WORDS: { ℕ };
+
+    const WORDS: usize;
+
+    fn put(self, w: &mut [u64], at: usize)
+        requires { at + WORDS ≤ 2 ^ 32 }
+        ensures { Run w.old at WORDS (codec.enc self) w.new };
+
+    fn get(w: &[u64], at: usize) -> Self
+        requires { at + WORDS ≤ 2 ^ 32 }
+        ensures { result ≡ codec.dec w.now at };
+
+    fn unused() -> Self
+        ensures { result ≡ unused };
+
+    ghost size: { codec.size ≡ WORDS };
 }
 
-fn put_places(w: &mut [u64], at: usize, v: [Place; 8])
-    requires { at + 24 ≤ 2 ^ 64 }
-    ensures { Run w.old at 24 (rows_enc place.enc v) w.new }
-{
-    for (k, p) in v.iter().enumerate() {
-        put_place(w, at + PLACE_WORDS * k, *p);
+// A place; an LFE with an angle is read as straight ahead.
+impl Part for Place {
+    ghost codec = { place };
+
+    ghost unused = { blank };
+
+    ghost WORDS = { 3 };
+
+    const WORDS: usize = 3;
+
+    fn put(self, w: &mut [u64], at: usize) {
+        codec::put(w, at, self.azimuth);
+        codec::put(w, at + 1, self.elevation);
+        codec::put(w, at + 2, self.lfe);
     }
-}
 
-fn put_channel(w: &mut [u64], at: u32, c: Channel)
-    requires { at + 9 ≤ 2 ^ 32 }
-    ensures { Run w.old at 9 (channel.enc c) w.new }
-{
-    strand_image::put_filter(w, at, c.shelf);
-    strand_image::put_filter(w, at + 4, c.high_pass);
-    codec::put(w, at as usize + 8, c.fast);
-}
-
-// The same loop over channels: a trait of `codec` can't be given to a type of `layout` or `channels` here.
-fn put_others(w: &mut [u64], at: u32, v: [Channel; 7])
-    requires { at + 63 ≤ 2 ^ 32 }
-    ensures { Run w.old at 63 (rows_enc channel.enc v) w.new }
-{
-    for (k, c) in v.iter().enumerate() {
-        put_channel(w, at + CHANNEL_WORDS * (k as u32), *c);
+    fn get(w: &[u64], at: usize) -> Place {
+        let azimuth = get_angle(w, at, AZIMUTH);
+        let elevation = get_angle(w, at + 1, ELEVATION);
+        let lfe = codec::get_capped(w, at + 2, FLAG);
+        if (lfe == 0) | (azimuth == 0) & (elevation == 0) {
+            return Place {
+                azimuth,
+                elevation,
+                lfe,
+            };
+        }
+        CENTRE
     }
+
+    fn unused() -> Place {
+        CENTRE
+    }
+
+    ghost size = { place-size };
 }
 
-// The words of a bed's channels, from place `at` on; what has no place in w is dropped.
-pub fn put_surround(w: &mut [u64], at: u16, s: Surround)
-    ensures { Run w.old at 88 (surround.enc s) w.new }
-{
-    let i = at as u32;
-    codec::put(w, i as usize, s.layout.count);
-    put_places(w, (i + PLACES) as usize, s.layout.places);
-    put_others(w, i + OTHERS, s.others);
-}
+impl Part for Channel {
+    ghost codec = { channel };
 
-// ---- reading, from place `at` on
+    ghost unused = { resting };
+
+    ghost WORDS = { 9 };
+
+    const WORDS: usize = 9;
+
+    fn put(self, w: &mut [u64], at: usize) {
+        strand_image::put_filter(w, at as u32, self.shelf);
+        strand_image::put_filter(w, at as u32 + 4, self.high_pass);
+        codec::put(w, at + 8, self.fast);
+    }
+
+    fn get(w: &[u64], at: usize) -> Channel {
+        let shelf = strand_image::get_filter(w, at as u32);
+        let high_pass = strand_image::get_filter(w, at as u32 + 4);
+        let fast = codec::get(w, at + 8);
+        Channel {
+            shelf,
+            high_pass,
+            fast,
+        }
+    }
+
+    fn unused() -> Channel {
+        Channel::new()
+    }
+
+    ghost size = { channel-size };
+}
 
 // The word of an angle of at most `most` degrees, on either side, or 0.
 fn get_angle(w: &[u64], at: usize, most: u64) -> u64
@@ -97,64 +142,49 @@ fn get_angle(w: &[u64], at: usize, most: u64) -> u64
     if layout::size(a) <= most { a } else { 0 }
 }
 
-// A place; an LFE with an angle is read as straight ahead.
-fn get_place(w: &[u64], at: usize) -> Place
-    requires { at + 3 ≤ 2 ^ 64 }
-    ensures { result ≡ place.dec w.now at }
+// The values v, one after another.
+fn put_rows<T: Part>(w: &mut [u64], at: usize, v: &[T])
+    requires { at + T.WORDS * length v.now ≤ 2 ^ 32 }
+    ensures { Run w.old at (T.WORDS * length v.now) (rows_enc T.codec.enc v.now) w.new }
 {
-    let azimuth = get_angle(w, at, AZIMUTH);
-    let elevation = get_angle(w, at + 1, ELEVATION);
-    let lfe = codec::get_capped(w, at + 2, FLAG);
-    if (lfe == 0) | (azimuth == 0) & (elevation == 0) {
-        return Place {
-            azimuth,
-            elevation,
-            lfe,
-        };
-    }
-    Place {
-        azimuth: 0,
-        elevation: 0,
-        lfe: 0,
+    for (k, x) in v.iter().enumerate() {
+        x.put(w, at + T::WORDS * k);
     }
 }
 
-// The places of n channels, and blank ones after them; `get_others` is the same loop over channels, for the reason at `put_others`.
-fn get_places(w: &[u64], at: usize, n: usize) -> [Place; 8]
-    requires { (at + 24 ≤ 2 ^ 64) × (n ≤ 8) }
-    ensures { result ≡ (rows place blank 8 n).dec w.now at }
+// Value k of n, or what stands in an unused place.
+fn row<T: Part>(w: &[u64], at: usize, n: usize, k: usize) -> T
+    requires { at + T.WORDS * k + T.WORDS ≤ 2 ^ 32 }
+    ensures { result ≡ row_at T.codec T.unused w.now at n k }
 {
-    let mut v = Layout::new().places;
-    for k in 0..n {
-        v[k] = get_place(w, at + PLACE_WORDS * k);
-    }
-    v
-}
-
-fn get_channel(w: &[u64], at: u32) -> Channel
-    requires { at + 9 ≤ 2 ^ 32 }
-    ensures { result ≡ channel.dec w.now at }
-{
-    let shelf = strand_image::get_filter(w, at);
-    let high_pass = strand_image::get_filter(w, at + 4);
-    let fast = codec::get(w, at as usize + 8);
-    Channel {
-        shelf,
-        high_pass,
-        fast,
+    if k < n {
+        T::get(w, at + T::WORDS * k)
+    } else {
+        T::unused()
     }
 }
 
-// n channels, and channels at rest after them.
-fn get_others(w: &[u64], at: u32, n: usize) -> [Channel; 7]
-    requires { (at + 63 ≤ 2 ^ 32) × (n ≤ 7) }
-    ensures { result ≡ (rows channel resting 7 n).dec w.now at }
+// n values, into the first places of v.
+fn get_rows<T: Part>(w: &[u64], at: usize, n: usize, v: &mut [T])
+    requires { at + T.WORDS * length v.old ≤ 2 ^ 32 }
+    ensures { v.new ≡ table (row_at T.codec T.unused w.now at n) (length v.old) }
 {
-    let mut v = Surround::new().others;
-    for k in 0..n {
-        v[k] = get_channel(w, at + CHANNEL_WORDS * (k as u32));
+    for (k, x) in v.iter_mut().enumerate() {
+        *x = row(w, at, n, k);
     }
-    v
+}
+
+// ---- all of them
+
+// The words of a bed's channels, from place `at` on; what has no place in w is dropped. A u16, here and at `get_surround`, so that nothing is asked of a
+// caller.
+pub fn put_surround(w: &mut [u64], at: u16, s: Surround)
+    ensures { Run w.old at 88 (surround.enc s) w.new }
+{
+    let i = at as usize;
+    codec::put(w, i, s.layout.count);
+    put_rows(w, i + PLACES, &s.layout.places);
+    put_rows(w, i + OTHERS, &s.others);
 }
 
 // The number of channels; one that is out of its range is read as 1.
@@ -169,11 +199,13 @@ fn get_count(w: &[u64], at: usize) -> u64
 pub fn get_surround(w: &[u64], at: u16) -> Surround
     ensures { result ≡ surround.dec w.now at }
 {
-    let i = at as u32;
-    let count = get_count(w, i as usize);
+    let i = at as usize;
+    let count = get_count(w, i);
     let n = count as usize;
-    let places = get_places(w, (i + PLACES) as usize, n);
-    let others = get_others(w, i + OTHERS, n - 1);
+    let mut places = [CENTRE; 8];
+    get_rows(w, i + PLACES, n, &mut places);
+    let mut others = [Channel::new(); 7];
+    get_rows(w, i + OTHERS, n - 1, &mut others);
     Surround {
         layout: Layout { count, places },
         others,

@@ -9,6 +9,7 @@ ghost use Rattle.std.specs.Prelude.{◌<◌, ◌≤◌};
 
 use float::Lufs;
 use level::{FRAME, Level};
+use std::io::Stdout;
 use std::{array, fmt, io};
 
 const TOLERANCE: f64 = 0.1; // LU
@@ -130,12 +131,20 @@ struct Meter {
     short_term: Extremes,
 }
 
+// One of the document's cases, by its number, and the reading that it is of.
+#[derive(Clone, Copy)]
+struct Case {
+    out: Stdout,
+    number: u64,
+    window: Window,
+}
+
 // A frame of the sine.
 fn samples(amplitude: f32) -> [f32; FRAME] {
     array::from_fn(|k| SINE[k % 48] * amplitude)
 }
 
-// A negative number of LUFS as tenths below 0, rounded; 0 for any other.
+// A negative number of LUFS as tenths below 0, rounded; 0 for any other. No saturating cast: a must-fail edit is made in the bound.
 fn tenths(lufs: f64) -> u64 {
     let t = 0.5 - 10.0 * lufs;
     if t > -1.0 && t < 18446744073709551616.0 {
@@ -202,8 +211,8 @@ impl fmt::Display for Tried {
 
 impl Extremes {
     const NONE: Extremes = Extremes {
-        least: 1000.0,
-        greatest: -1000.0,
+        least: f64::INFINITY,
+        greatest: f64::NEG_INFINITY,
     };
 
     fn with(self, reading: Lufs) -> Extremes {
@@ -291,90 +300,108 @@ impl Meter {
     }
 }
 
-// A reading that is to stay the same.
-fn constant(rt: &impl Print, case: u64, m: Meter, w: Window, tone: Tone) -> io::Result<()> {
-    let e = m.extremes(w);
-    let least = Tried {
-        read: e.least,
-        tone,
-    };
-    let greatest = Tried {
-        read: e.greatest,
-        tone,
-    };
-    println!(rt; "case {case}, {w}, least {least}")?;
-    println!(rt; "case {case}, {w}, greatest {greatest}")
-}
+impl Case {
+    // A reading that is to stay the same.
+    fn constant(self, m: Meter, tone: Tone) -> io::Result<()> {
+        let Case {
+            out,
+            number,
+            window,
+        } = self;
+        let e = m.extremes(window);
+        let least = Tried {
+            read: e.least,
+            tone,
+        };
+        let greatest = Tried {
+            read: e.greatest,
+            tone,
+        };
+        println!(out; "case {number}, {window}, least {least}")?;
+        println!(out; "case {number}, {window}, greatest {greatest}")
+    }
 
-// The greatest reading of segment i.
-fn greatest(rt: &impl Print, case: u64, m: Meter, w: Window, i: u64, tone: Tone) -> io::Result<()> {
-    let greatest = Tried {
-        read: m.extremes(w).greatest,
-        tone,
-    };
-    println!(rt; "case {case}, i = {i}, {w}, greatest {greatest}")
+    // The greatest reading of segment i.
+    fn greatest(self, m: Meter, i: u64, tone: Tone) -> io::Result<()> {
+        let Case {
+            out,
+            number,
+            window,
+        } = self;
+        let greatest = Tried {
+            read: m.extremes(window).greatest,
+            tone,
+        };
+        println!(out; "case {number}, i = {i}, {window}, greatest {greatest}")
+    }
+
+    // Cases 9 and 12: a tone at -20 dBFS and then at -30 dBFS, over and over. The reading is constant after `unread` frames.
+    fn alternating(self, unread: u64, loud: u64, soft: u64, times: u64) -> io::Result<()> {
+        let mut m = Meter::new(unread);
+        for _ in 0..times {
+            m = m.tone(Tone::at(20), loud).tone(Tone::at(30), soft);
+        }
+        self.constant(m, Tone::at(23))
+    }
+
+    // Cases 10 and 13, for meters of files: silence for i twentieths of the window, a tone of the window's length at -23 dBFS, silence of 1 s.
+    // Each file has a fresh level.
+    // The document has 20 files. Here i goes from 0 to 20, so that they are among these whether it counts from 0 or from 1.
+    fn files(self) -> io::Result<()> {
+        let tone = Tone::at(23);
+        for i in 0..=20 {
+            let m = Meter::new(0).burst(self.window, i, tone).silence(SECOND);
+            self.greatest(m, i, tone)?;
+        }
+        Ok(())
+    }
+
+    // Cases 11 and 14, for live meters: one level hears 20 segments of twice the window's length, with the silence and the tone as above, then
+    // silence.
+    // The document expects -38 to -19 of them, so the tone of segment i is taken to be at i - 38 dBFS, with i from 0 to 19.
+    // (Were i counted from 1 and the first tone at -38 dBFS all the same, each tone would come a twentieth of the window later.)
+    fn live(self) -> io::Result<()> {
+        let mut m = Meter::new(0);
+        for i in 0..20u8 {
+            let segment = u64::from(i);
+            let tone = Tone::at(38 - i);
+            m = m
+                .again()
+                .burst(self.window, segment, tone)
+                .silences(self.window.twentieth(), 20 - segment);
+            self.greatest(m, segment, tone)?;
+        }
+        Ok(())
+    }
 }
 
 // Cases 1 and 2: a tone of 20 s. M and S are constant from the first frame on: while there are fewer frames than a window has, it has those.
-fn steady(rt: &impl Print, case: u64, tone: Tone) -> io::Result<()> {
+fn steady(out: Stdout, number: u64, tone: Tone) -> io::Result<()> {
     let m = Meter::new(0).tone(tone, 20 * SECOND);
-    constant(rt, case, m, Window::Momentary, tone)?;
-    constant(rt, case, m, Window::ShortTerm, tone)
-}
-
-// Cases 9 and 12: a tone at -20 dBFS and then at -30 dBFS, over and over. The reading is constant after `unread` frames.
-fn alternating(
-    rt: &impl Print,
-    case: u64,
-    w: Window,
-    unread: u64,
-    loud: u64,
-    soft: u64,
-    times: u64,
-) -> io::Result<()> {
-    let mut m = Meter::new(unread);
-    for _ in 0..times {
-        m = m.tone(Tone::at(20), loud).tone(Tone::at(30), soft);
-    }
-    constant(rt, case, m, w, Tone::at(23))
-}
-
-// Cases 10 and 13, for meters of files: silence for i twentieths of the window, a tone of the window's length at -23 dBFS, silence of 1 s.
-// Each file has a fresh level.
-// The document has 20 files. Here i goes from 0 to 20, so that they are among these whether it counts from 0 or from 1.
-fn files(rt: &impl Print, case: u64, w: Window) -> io::Result<()> {
-    let tone = Tone::at(23);
-    for i in 0..=20 {
-        let m = Meter::new(0).burst(w, i, tone).silence(SECOND);
-        greatest(rt, case, m, w, i, tone)?;
-    }
-    Ok(())
-}
-
-// Cases 11 and 14, for live meters: one level hears 20 segments of twice the window's length, with the silence and the tone as above, then silence.
-// The document expects -38 to -19 of them, so the tone of segment i is taken to be at i - 38 dBFS, with i from 0 to 19.
-// (Were i counted from 1 and the first tone at -38 dBFS all the same, each tone would come a twentieth of the window later.)
-fn live(rt: &impl Print, case: u64, w: Window) -> io::Result<()> {
-    let mut m = Meter::new(0);
-    for i in 0..20u8 {
-        let segment = u64::from(i);
-        let tone = Tone::at(38 - i);
-        m = m
-            .again()
-            .burst(w, segment, tone)
-            .silences(w.twentieth(), 20 - segment);
-        greatest(rt, case, m, w, segment, tone)?;
+    for window in [Window::Momentary, Window::ShortTerm] {
+        let case = Case {
+            out,
+            number,
+            window,
+        };
+        case.constant(m, tone)?;
     }
     Ok(())
 }
 
 fn main(rt: HostRuntime) -> io::Result<()> {
-    steady(&rt, 1, Tone::at(23))?;
-    steady(&rt, 2, Tone::at(33))?;
-    alternating(&rt, 9, Window::ShortTerm, 3 * SECOND, 134, 166, 5)?;
-    files(&rt, 10, Window::ShortTerm)?;
-    live(&rt, 11, Window::ShortTerm)?;
-    alternating(&rt, 12, Window::Momentary, SECOND, 18, 22, 25)?;
-    files(&rt, 13, Window::Momentary)?;
-    live(&rt, 14, Window::Momentary)
+    let out = rt.stdout();
+    let case = |number, window| Case {
+        out,
+        number,
+        window,
+    };
+    steady(out, 1, Tone::at(23))?;
+    steady(out, 2, Tone::at(33))?;
+    case(9, Window::ShortTerm).alternating(3 * SECOND, 134, 166, 5)?;
+    case(10, Window::ShortTerm).files()?;
+    case(11, Window::ShortTerm).live()?;
+    case(12, Window::Momentary).alternating(SECOND, 18, 22, 25)?;
+    case(13, Window::Momentary).files()?;
+    case(14, Window::Momentary).live()
 }

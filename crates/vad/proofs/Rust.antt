@@ -5,7 +5,7 @@ use lib.ListN.{length-replicate}
 use lib.Ieee.{Float, lt, le}
 use lib.Ieee.Fits.{and_l, and_r}
 use Rattle.power.specs.Power.{exp10_of}
-use Rattle.sequence.specs.Latest.{zeros}
+use Rattle.sequence.specs.Latest.{blanks}
 use Rattle.level.specs.Level as level
 use Rattle.float.specs.Arithmetic.{zero64}
 use Rattle.float.specs.AllFinite.{all_finite}
@@ -204,8 +204,8 @@ module _ (t : Strand) (v : RustVad Meter) (a : Agrees t v) (xs : List Float) (n 
 
 -- ---- fresh, and a reset
 
-fresh-places : length (zeros 300) ≡ 300
-unfolding zeros
+fresh-places : length (blanks 300 zero64) ≡ 300
+unfolding blanks
 fresh-places = length-replicate 300 zero64
 
 -- a level's new form is the Rust's

@@ -4,7 +4,7 @@ use Rattle.std.specs.Float.{binary64}
 use Rattle.std.specs.Float.Ieee.{lt, le}
 use Rattle.float.specs.Choice.{max_of}
 use Rattle.power.specs.Power.{exp10_of}
-use Rattle.float.specs.Arithmetic.{◌⊕◌, ◌⊖◌, ◌⊗◌, ◌⊘◌, zero64}
+use Rattle.float.specs.Arithmetic.{◌⊖◌, ◌⊘◌, zero64, toward}
 use Rattle.vad.specs.declared.VadSettings.{VadSettings}
 use Rattle.vad.specs.declared.Decision.{Decision}
 use Rattle.vad.specs.Hold.{hold_frames}
@@ -18,7 +18,7 @@ abbrev pub pace : Float → Float → Float
 pace p probability = cond (lt p probability) (from_bits binary64 0x3fe0000000000000) (from_bits binary64 0x3fc999999999999a)
 
 unfoldable pub smoothed_of : Float → Float → Float
-smoothed_of p probability = p ⊕ pace p probability ⊗ (probability ⊖ p)
+smoothed_of p probability = toward p probability (pace p probability)
 
 -- max(on - 0.15, 0.05)
 unfoldable pub off_of : Float → Float
@@ -70,7 +70,7 @@ switch_of d on off n = cond (le on d.probability) (onset_of d n) (cond d.active 
 -- the first power, or 0.01 of the way to it
 unfoldable pub mean_of : Option Float → Float → Float
 mean_of None p = p
-mean_of (Some m) p = m ⊕ from_bits binary64 0x3f847ae147ae147b ⊗ (p ⊖ m)
+mean_of (Some m) p = toward m p (from_bits binary64 0x3f847ae147ae147b)
 
 abbrev pub with_power : Decision → Option Float → Decision
 with_power d p = record {

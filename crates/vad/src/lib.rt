@@ -11,7 +11,6 @@ ghost use Rattle.vad.specs.Decision.{
   onset_of,
   offset_of,
   switch_of,
-  mean_of,
   voiced_of,
   decide_of,
   full_of,
@@ -94,8 +93,7 @@ fn heard(gated: bool, probability: f64) -> f64
 fn smoothed(p: f64, probability: f64) -> f64
     ensures { result ≡ smoothed_of p probability }
 {
-    let a = float::pick(p < probability, 0.5, 0.2);
-    p + a * (probability - p)
+    float::toward(p, probability, float::pick(p < probability, 0.5, 0.2))
 }
 
 // Speech that turns on at `on` goes off strictly below this.
@@ -112,17 +110,6 @@ pub fn hold_frames(ms: f64) -> u32
     ensures { result ≡ hold_frames ms }
 {
     std::num::saturating_f64_to_u32(float::round(ms / 10.0))
-}
-
-// The mean speech power with a frame's: a hundredth of the way, which is a time constant of 1 s.
-#[tactic(auto, unfolding(crate::specs::Decision::mean_of))]
-fn mean(old: Option<f64>, power: f64) -> f64
-    ensures { result ≡ mean_of old power }
-{
-    match old {
-        Some(m) => m + 0.01 * (power - m),
-        None => power,
-    }
 }
 
 impl Decision {
@@ -170,14 +157,16 @@ impl Decision {
         self
     }
 
-    // The speech power with a frame's level, dBFS, while speech is on.
-    #[tactic(auto, unfolding(crate::specs::Decision::voiced_of))]
+    // The speech power with a frame's level, dBFS, while speech is on: a hundredth of the way, which is a time constant of 1 s.
+    #[tactic(auto, unfolding(crate::specs::Decision::voiced_of, crate::specs::Decision::mean_of))]
     fn voiced(self, dbfs: f64) -> Decision
         ensures { result ≡ voiced_of self dbfs }
     {
         if self.active {
+            let power = power::exp10(dbfs / 10.0);
+            let mean = self.power.map_or(power, |m| float::toward(m, power, 0.01));
             return Decision {
-                power: Some(mean(self.power, power::exp10(dbfs / 10.0))),
+                power: Some(mean),
                 ..self
             };
         }

@@ -29,7 +29,7 @@ pub fn status(reduction: Db, s: RatioStatus) -> [u64; 13]
     ensures { result ≡ status_words reduction s }
 {
     [
-        s.state.number(),
+        u64::from(s.state),
         float::to_bits(reduction.0),
         float::to_bits(s.reduction_db.0),
         float::to_bits(s.slow_db.0),
@@ -141,8 +141,8 @@ fn place(w: &[u64; 24], at: usize) -> Place
     }
 }
 
-// A layout from the number of its channels and eight times three words: azimuth, elevation, LFE flag. The places stand in a row, since `array::from_fn`
-// says only that calls of its closure gave them.
+// A layout from the number of its channels and eight times three words: azimuth, elevation, LFE flag. Written out, as the definition has them: of
+// `array::from_fn` only its closure's calls are known, and a loop needs a law on each place.
 #[tactic(auto, unfolding(crate::specs::Words::layout_from))]
 pub fn layout(count: u64, w: &[u64; 24]) -> Layout
     ensures { result ≡ layout_from count w.now }

@@ -2,7 +2,7 @@
 use Rattle.std.proofs.Common.{◌≡◌, ◌+◌, ◌*◌, refl, sym, ◌∙◌, arith}
 use Rattle.blocks.specs.Words.{block_words, word_at, holds, blocks_in, first_bad}
 use Rattle.blocks.proofs.Bytes.{word-chunk}
-use Rattle.blocks.proofs.Checks.{turn-start, turn_next, turn_bad, from_start, past, here, at-end}
+use Rattle.blocks.proofs.Checks.{turn-start, turn_next, turn_bad, from_start, past, here, at-end, bad-at, bad-nowhere}
 use Rattle.std.proofs.lemmas.Grind.{common_steps}
 use Rattle.blocks.proofs.first_bad.Goals as goal
 
@@ -28,9 +28,10 @@ blocks-2-preserved c =
 pub returns-after-blocks-2 : goal.returns-after-blocks-2
 returns-after-blocks-2 c =
     let at = c.blocks-2 in
-    let n = blocks_in c.args.b.now in
+    let b = c.args.b.now in
+    let n = blocks_in b in
     let e : n ≡ at.block = omega arith in
-    at.invariant.0 ∙ e ∙ sym (at-end (holds c.args.b.now) at.block n (omega arith)) ∙ at.invariant.1
+    at.invariant.0 ∙ bad-nowhere b (e ∙ sym (at-end (holds b) at.block n (omega arith)) ∙ at.invariant.1)
 
 pub returns-then-check-w : goal.returns-then-check-w
 returns-then-check-w c =
@@ -38,5 +39,5 @@ returns-then-check-w c =
     let w = c.from_le_bytes-w.result in
     let i = block_words * c.blocks-2.block + c.loop-j.j in
     let e : w ≡ word_at b i = word-chunk b c.as_chunks.result.0.now i w c.as_chunks.ensures.front (omega arith) c.from_le_bytes-w.ensures in
-    sym (here _ _ _ (omega arith) (turn_bad _ _ w c.loop-j.invariant.1 e (omega arith) c.loop-j-test.true c.if-check-w.true))
-    ∙ c.blocks-2.invariant.1
+    bad-at b c.blocks-2.block (omega arith)
+    (sym (here _ _ _ (omega arith) (turn_bad _ _ w c.loop-j.invariant.1 e (omega arith) c.loop-j-test.true c.if-check-w.true)) ∙ c.blocks-2.invariant.1)

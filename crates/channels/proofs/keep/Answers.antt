@@ -24,7 +24,7 @@ loop-i-preserved c =
     let a = c.args in (
       l.invariant.0,
       simp length-set l.invariant.1,
-      (λ k. set (l.invariant.2 k) l.i (c.kept.ensures k)) ∙ laid-turn kept_of a.ws.now a.channels l.i past_weighing past_channel (omega arith) (omega arith),
+      (λ k. set (l.invariant.2 k) l.i (c.from.ensures k)) ∙ laid-turn kept_of a.ws.now a.channels l.i past_weighing past_channel (omega arith) (omega arith),
     )
 
 pub returns : goal.returns

@@ -1,6 +1,6 @@
 -- `frame` meets its contract: the chain's frame of the key and of the bed, whose samples are put at the start of those that are lent, and its line.
 use Rattle.std.proofs.Common.{◌+◌, ◌%◌, ◌^◌, ap, ◌∙◌}
-use Rattle.chain.specs.declared.Framed.{Framed}
+use Rattle.chain.specs.Chain.{Framed}
 use Rattle.line_text.specs.Line.{line_of, put_at}
 use Rattle.ducklines.specs.Frames.{frame_in}
 use Rattle.ducklines.proofs.Ran.{heard-frame}

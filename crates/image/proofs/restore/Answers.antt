@@ -1,25 +1,26 @@
 -- `image::restore` meets its contract: read, its words written again, and compared.
-use mathlib.Core.Path.{refl}
+use mathlib.Core.Path.{refl, sym, ◌∙◌}
+use borrow.Author.Tests.{not-true, not-false}
 use Rattle.blocks.specs.Lists.{Bytes}
+use Rattle.blocks.proofs.Checks.{some-bad, none-bad}
 use Rattle.image.proofs.Calls.{wrong_length, bad_check, good, foreign}
 use Rattle.image.proofs.restore.Goals as goal
 
-pub returns-then-b : goal.returns-then-b
-returns-then-b c = wrong_length _ _ c.if-b.true
+pub returns-in_default : goal.returns-in_default
+returns-in_default c = c.refused.ensures ∙ wrong_length _ _ (sym c.in_default.is ∙ c.edition_of.ensures)
 
-pub returns-then-first_bad-b : goal.returns-then-first_bad-b
-returns-then-first_bad-b c = bad_check _ _ _ c.if-b.false c.first_bad.ensures c.if-first_bad-b.true
+pub returns-then-is_some : goal.returns-then-is_some
+returns-then-is_some c = c.refused-then-is_some.ensures ∙ bad_check _ _ _ (sym c.in-Some.is ∙ c.edition_of.ensures) (some-bad _ _ c.first_bad.ensures (sym c.is_some.ensures ∙ c.if-is_some.true))
 
-pub returns-then-eq : goal.returns-then-eq
-returns-then-eq c =
-    let q = c.shared_slice_known-1.given in
-    let s : Bytes c.args.b.now = λ k. (q k).fits in
-    good _ _ _ _ _ _ _ _ _ s c.if-b.false c.first_bad.ensures c.if-first_bad-b.false refl
-    c.payload.ensures refl c.get_either-new.ensures c.put_either.ensures c.eq.ensures c.if-eq.true
+pub returns-then-ne : goal.returns-then-ne
+returns-then-ne c =
+    let s : Bytes c.args.b.now = λ k. (c.type_inv.b k).fits in
+    c.refused-then-ne.ensures
+    ∙ foreign _ _ _ _ _ _ _ s (none-bad _ _ c.first_bad.ensures (sym c.is_some.ensures ∙ c.if-is_some.false)) refl c.payload.ensures refl
+    _ (sym c.in-Some.is ∙ c.edition_of.ensures) c.get_either-new.ensures c.put_either.ensures (not-true _ (sym c.ne.ensures ∙ c.if-ne.true))
 
 pub returns : goal.returns
 returns c =
-    let q = c.shared_slice_known-1.given in
-    let s : Bytes c.args.b.now = λ k. (q k).fits in
-    foreign _ _ _ _ _ _ _ _ _ s c.if-b.false c.first_bad.ensures c.if-first_bad-b.false refl
-    c.payload.ensures refl c.get_either-new.ensures c.put_either.ensures c.eq.ensures c.if-eq.false
+    let s : Bytes c.args.b.now = λ k. (c.type_inv.b k).fits in
+    good _ _ _ _ _ _ _ s (none-bad _ _ c.first_bad.ensures (sym c.is_some.ensures ∙ c.if-is_some.false)) refl c.payload.ensures refl
+    _ (sym c.in-Some.is ∙ c.edition_of.ensures) c.get_either-new.ensures c.put_either.ensures (not-false _ (sym c.ne.ensures ∙ c.if-ne.false))

@@ -29,7 +29,7 @@ unfolding line_of
 returns-in-Err c =
     let a = c.args in
     (put_as
-    (ap (λ (k : ℕ). decimal a.number ++ ascii " refused " ++ decimal k ++ ascii "\n") c.number.ensures
+    (ap (λ (k : ℕ). decimal a.number ++ ascii " refused " ++ decimal k ++ ascii "\n") c.from.ensures
     ∙ refused-joined (decimal a.number) _
     ∙ ap (line_of a.number) (sym c.in-Err.is))
     (put_then

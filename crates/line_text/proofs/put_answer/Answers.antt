@@ -2,26 +2,34 @@
 use Rattle.std.proofs.Common.{ℕ, ◌++◌, ap, ◌∙◌, arith}
 use Rattle.program.specs.Text.{ascii}
 use Rattle.line_text.specs.Line.{decimal, hundredths_of}
-use Rattle.line_text.proofs.Parts.{state_part, active_part, answer-joined, state-end, active-end, decimal-end}
+use Rattle.line_text.proofs.Parts.{state_part, active_part, answer-joined, bytes-end, state-room, active-room, decimal-end}
 use Rattle.line_text.proofs.Putting.{promised, put_as, put_then}
 use Rattle.line_text.proofs.put_answer.Goals as goal
 
-pub put_active-bed-requires : goal.put_active-bed-requires
-put_active-bed-requires c =
+pub put-key-requires : goal.put-key-requires
+put-key-requires c = omega (arith, state-room c.args.a.status.state _ c.state_text.ensures, c.requires)
+
+pub put-bed-requires : goal.put-bed-requires
+put-bed-requires c =
     let a = c.args.a in
     omega (
       arith,
-      state-end _ _ a.status.state _ _ c.put_state-key.ensures,
+      bytes-end _ _ _ _ _ c.put-key.ensures,
+      state-room a.status.state _ c.state_text.ensures,
+      active-room a.key.speech_active _ c.active_text.ensures,
       c.requires,
     )
 
-pub put_active-number-requires : goal.put_active-number-requires
-put_active-number-requires c =
+pub put-number-requires : goal.put-number-requires
+put-number-requires c =
     let a = c.args.a in
     omega (
       arith,
-      state-end _ _ a.status.state _ _ c.put_state-key.ensures,
-      active-end _ _ a.key.speech_active _ _ c.put_active-bed.ensures,
+      bytes-end _ _ _ _ _ c.put-key.ensures,
+      bytes-end _ _ _ _ _ c.put-bed.ensures,
+      state-room a.status.state _ c.state_text.ensures,
+      active-room a.key.speech_active _ c.active_text.ensures,
+      active-room a.bed.speech_active _ c.active_text-2.ensures,
       c.requires,
     )
 
@@ -30,9 +38,12 @@ put_number-end-requires c =
     let a = c.args.a in
     omega (
       arith,
-      state-end _ _ a.status.state _ _ c.put_state-key.ensures,
-      active-end _ _ a.key.speech_active _ _ c.put_active-bed.ensures,
-      active-end _ _ a.bed.speech_active _ _ c.put_active-number.ensures,
+      bytes-end _ _ _ _ _ c.put-key.ensures,
+      bytes-end _ _ _ _ _ c.put-bed.ensures,
+      bytes-end _ _ _ _ _ c.put-number.ensures,
+      state-room a.status.state _ c.state_text.ensures,
+      active-room a.key.speech_active _ c.active_text.ensures,
+      active-room a.bed.speech_active _ c.active_text-2.ensures,
       c.requires,
     )
 
@@ -41,10 +52,13 @@ put-requires c =
     let a = c.args.a in
     omega (
       arith,
-      state-end _ _ a.status.state _ _ c.put_state-key.ensures,
-      active-end _ _ a.key.speech_active _ _ c.put_active-bed.ensures,
-      active-end _ _ a.bed.speech_active _ _ c.put_active-number.ensures,
+      bytes-end _ _ _ _ _ c.put-key.ensures,
+      bytes-end _ _ _ _ _ c.put-bed.ensures,
+      bytes-end _ _ _ _ _ c.put-number.ensures,
       decimal-end _ _ _ _ _ c.put_number-end.ensures,
+      state-room a.status.state _ c.state_text.ensures,
+      active-room a.key.speech_active _ c.active_text.ensures,
+      active-room a.bed.speech_active _ c.active_text-2.ensures,
       c.requires,
     )
 
@@ -57,6 +71,8 @@ returns c =
     ∙ answer-joined a.status.state a.key.speech_active a.bed.speech_active (decimal (hundredths_of a.status.reduction_db.0)))
     (put_then
     (put_then
-    (put_then (put_then (promised _ _ _ _ _ c.put_state-key.ensures) (promised _ _ _ _ _ c.put_active-bed.ensures)) (promised _ _ _ _ _ c.put_active-number.ensures))
+    (put_then
+    (put_then (put_as c.state_text.ensures (promised _ _ _ _ _ c.put-key.ensures)) (put_as c.active_text.ensures (promised _ _ _ _ _ c.put-bed.ensures)))
+    (put_as c.active_text-2.ensures (promised _ _ _ _ _ c.put-number.ensures)))
     (promised _ _ _ _ _ c.put_number-end.ensures))
     (promised _ _ _ _ _ c.put.ensures))).is

@@ -32,6 +32,6 @@ returns c =
     let k = fold_end step_of l.k a.xs.now l.i (omega arith) ∙ l.invariant.2 in
     let b = fold_end step_of l.b a.ys.now l.i (omega arith) ∙ l.invariant.3 in (
       c.of.ensures ∙ (λ i. banded_pairs (k i) (b i)),
-      all-stored l.k a.xs.now l.key_pitch (outputs_of a.key a.xs.now) l.i (omega arith) (omega arith) l.invariant.4,
-      all-stored l.b a.ys.now l.bed_pitch (outputs_of a.bed a.ys.now) l.i (omega arith) (omega arith) l.invariant.5,
+      all-stored l.k a.xs.now l.key_pitch (outputs_of a.banded.first a.xs.now) l.i (omega arith) (omega arith) l.invariant.4,
+      all-stored l.b a.ys.now l.bed_pitch (outputs_of a.banded.second a.ys.now) l.i (omega arith) (omega arith) l.invariant.5,
     )

@@ -35,7 +35,7 @@ returns-then-rests c =
     let v = c.shelf_output in
     let a = c.args in
     let n : length a.xs.now ≡ length a.ys.now = omega arith in
-    let p = beside-run s.result v.result a.key a.bed a.xs.now a.ys.now (get_or a.xs.now 0 nan) n s.ensures v.ensures (c.rests.ensures.1 (subst T (sym c.if-rests.true) tt)) in
+    let p = beside-run s.result v.result a.weighed.first a.weighed.second a.xs.now a.ys.now (get_or a.xs.now 0 nan) n s.ensures v.ensures (c.rests.ensures.1 (subst T (sym c.if-rests.true) tt)) in
     c.of.ensures ∙ (λ i. weighed_pairs (p.0 i) (p.1 i))
 
 pub returns-then-rests-2 : goal.returns-then-rests-2
@@ -45,5 +45,5 @@ returns-then-rests-2 c =
     let v = c.shelf_output-then-rests-2 in
     let a = c.args in
     let n : length a.ys.now ≡ length a.xs.now = omega arith in
-    let p = beside-run s.result v.result a.bed a.key a.ys.now a.xs.now (get_or a.ys.now 0 nan) n s.ensures v.ensures (c.rests-2.ensures.1 (subst T (sym c.if-rests-2.true) tt)) in
+    let p = beside-run s.result v.result a.weighed.second a.weighed.first a.ys.now a.xs.now (get_or a.ys.now 0 nan) n s.ensures v.ensures (c.rests-2.ensures.1 (subst T (sym c.if-rests-2.true) tt)) in
     c.of-then-rests-2.ensures ∙ (λ i. weighed_pairs (p.1 i) (p.0 i))

@@ -1,7 +1,7 @@
 -- `strand_image::get_strand` meets its contract.
 use mathlib.Core.Path.{◌≡◌, ap, ◌∙◌}
 use native.Mathlib.Omega.{arith}
-use Rattle.strand_image.specs.Strand.{strand, front, state, filters, powers, decimated, floor, window, latest, history, decision}
+use Rattle.strand_image.specs.Strand.{strand, front, state, filters, powers, floor, window, latest, history, decision}
 use Prim.Native.Nat.{ℕ, ◌+◌}
 use lib.ListN.{get_or}
 use lib.Ieee.{binary64}
@@ -27,7 +27,7 @@ pub get_decision-decision-requires : goal.get_decision-decision-requires
 get_decision-decision-requires c = omega (arith, c.ranges.at)
 
 pub returns : goal.returns
-unfolding strand front state filters decimated floor window latest
+unfolding strand front state filters floor window latest
 returns c =
     let l = c.args.w.now in
     let i = c.args.at in
@@ -46,7 +46,7 @@ returns c =
       };
       detector = record {
         filters = (c.get_filters-filters.ensures ∙ ap (filters.dec l) p8) k;
-        decimated = c.get_decimated-decimated.ensures k;
+        decimated = c.get_latest-decimated.ensures k;
         floor = (c.get_floor-floor.ensures ∙ ap (floor.dec l) p567) k;
         history = (c.get_latest-history.ensures ∙ ap (history.dec l) p580) k;
       };

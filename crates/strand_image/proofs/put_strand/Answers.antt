@@ -8,7 +8,7 @@ pub returns : goal.returns
 unfolding strand
 returns c =
     then c.put_front.ensures (omega arith)
-    (then c.put_decimated.ensures (omega arith)
-    (then c.put_floor.ensures (omega arith)
     (then c.put_latest.ensures (omega arith)
+    (then c.put_floor.ensures (omega arith)
+    (then c.put_latest-2.ensures (omega arith)
     c.put_decision.ensures)))

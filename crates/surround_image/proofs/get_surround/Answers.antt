@@ -10,14 +10,8 @@ use Rattle.surround_image.proofs.Codecs.{place-size, count-size}
 use Rattle.surround_image.proofs.Rules.{count-bounds}
 use Rattle.surround_image.proofs.get_surround.Goals as goal
 
-pub get_places-places-requires : goal.get_places-places-requires
-get_places-places-requires c = (omega arith, (count-bounds _ _ _ c.get_count-count.ensures).1)
-
 pub overflow_sub-n : goal.overflow_sub-n
 overflow_sub-n c = (count-bounds _ _ _ c.get_count-count.ensures).0
-
-pub get_others-others-requires : goal.get_others-others-requires
-get_others-others-requires c = (omega arith, omega (arith, (count-bounds _ _ _ c.get_count-count.ensures).1))
 
 pub returns : goal.returns
 unfolding surround
@@ -30,7 +24,7 @@ returns c =
     λ k. record {
       layout = record {
         count = e k;
-        places = (c.get_places-places.ensures ∙ (λ z. (rows place blank 8 (e z)).dec l (p z))) k;
+        places = (c.get_rows.ensures ∙ (λ z. (rows place blank 8 (e z)).dec l (p z))) k;
       };
-      others = (c.get_others-others.ensures ∙ (λ z. (rows channel resting 7 (e z - 1)).dec l (q z))) k;
+      others = (c.get_rows-2.ensures ∙ (λ z. (rows channel resting 7 (e z - 1)).dec l (q z))) k;
     }

@@ -11,7 +11,7 @@ loop-i-preserved c =
     let a = c.args in
     let heard = take (length a.to.now) a.xs.now in
     let size = length-take (length a.to.now) a.xs.now in
-    let y = c.f32_to_f64_with_nan in (
+    let y = c.from in (
       fill-turn nan l.to heard y.result l.i l.invariant.0 (y.ensures ∙ sym (get_or-take (length a.to.now) a.xs.now l.i nan (omega (arith, size)))) (omega (arith, size)) (omega (arith, size)),
       rest-turn l.to a.to.now y.result l.i l.invariant.1,
     )

@@ -13,7 +13,7 @@ loop-i-preserved c =
     let d = c.args.d in (
       length-set l.y-items l.i _ ∙ l.invariant.0,
       l.invariant.1,
-      fill-turn nan l.y-items d c.f32_to_f64_with_nan.result l.i l.invariant.2 c.f32_to_f64_with_nan.ensures (omega arith) (omega arith),
+      fill-turn nan l.y-items d c.from.result l.i l.invariant.2 c.from.ensures (omega arith) (omega arith),
     )
 
 pub returns : goal.returns

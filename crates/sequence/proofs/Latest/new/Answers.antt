@@ -1,8 +1,8 @@
 -- `Latest::new` meets its contract.
 use Rattle.std.proofs.Common.{refl}
-use Rattle.sequence.specs.Latest.{zeros}
+use Rattle.sequence.specs.Latest.{blanks}
 use Rattle.sequence.proofs.Latest.new.Goals as goal
 
 pub returns : goal.returns
-unfolding zeros
+unfolding blanks
 returns g c = refl

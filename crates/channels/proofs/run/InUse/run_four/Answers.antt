@@ -8,9 +8,9 @@ use Rattle.channels.proofs.run.InUse.run_four.Goals as goal
 
 pub weigh_four-requires : goal.weigh_four-requires
 weigh_four-requires c =
-    let xs = c.args.xs.now in
+    let xs = c.args.self.now.xs.now in
     let a = c.args in
-    let m = a.self.count in
+    let m = a.self.now.count in
     let p = c.requires in (
       whole-samples xs _ a.f.a m c.samples.ensures p.0.a p.1 p.2,
       whole-samples xs _ a.f.b m c.samples-2.ensures p.0.b p.1 p.2,

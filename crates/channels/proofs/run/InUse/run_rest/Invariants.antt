@@ -8,4 +8,4 @@ use Rattle.channels.proofs.run.InUse.run_rest.Given as goal
 abbrev pub invariant-loop-c : goal.invariant-loop-c
 invariant-loop-c l =
     (length l.weighed ≡ 8)
-    × (Right l.self.channels l.xs l.run → (k : ℕ) → k < l.c → get_or l.weighed k past_weighing ≡ weighing_of l.self.channels l.xs k)
+    × (Right l.self.channels l.self.xs.now l.run → (k : ℕ) → k < l.c → get_or l.weighed k past_weighing ≡ weighing_of l.self.channels l.self.xs.now k)
