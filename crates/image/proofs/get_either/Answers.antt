@@ -14,6 +14,7 @@ use Rattle.image.specs.Chain.{body, with_surround, chain}
 use Rattle.image.specs.Image.{read_by}
 use Rattle.image.proofs.Codecs.{size-body}
 use Rattle.image.proofs.get_either.Goals as goal
+use Rattle.image.proofs.get_either.Goals.{in-One, in-Two}
 
 -- in edition 1 the bed is one channel at 0, 0
 first : (l : List ℕ) (s : Surround) → s ≡ mono_surround → with_surround (body.dec l 1) s ≡ read_by One l
@@ -26,8 +27,12 @@ second l s e =
     let p : surround.dec l after_body ≡ surround.dec l (1 + body.size) = ap {B = Surround} (λ (n : ℕ). surround.dec l (1 + n)) (sym size-body) in
     ap {B = Chain} (with_surround (body.dec l 1)) (e ∙ p)
 
-pub returns-in-One : goal.returns-in-One
-returns-in-One c = c.get_body.ensures ∙ first c.args.w.now _ c.new.ensures ∙ ap {B = Chain} (λ (e : EditionNumber). read_by e c.args.w.now) (sym c.in-One.is)
-
-pub returns-in-Two : goal.returns-in-Two
-returns-in-Two c = c.get_body-in-Two.ensures ∙ second c.args.w.now _ c.get_surround.ensures ∙ ap {B = Chain} (λ (e : EditionNumber). read_by e c.args.w.now) (sym c.in-Two.is)
+pub returns : goal.returns
+returns c =
+    let l = c.args.w.now in
+    let by = λ (e : EditionNumber). read_by e l in
+    c.get_body.ensures
+    ∙ elim c.match-edition.branch [
+      | in-One w ↦ first l _ (w.surround-is ∙ w.new-surround.ensures) ∙ ap {B = Chain} by (sym w.in-One.is)
+      | in-Two w ↦ second l _ (w.surround-is ∙ w.get_surround-surround.ensures) ∙ ap {B = Chain} by (sym w.in-Two.is)
+    ]
