@@ -1,14 +1,14 @@
 -- The bounds of the logarithm: 2 ^ N ≤ n ^ (2 ^ k) < 2 ^ (N + 2) for N = whole_log_of k n.
 -- Each power of 2 ^ 30 stands behind a variable exponent, or a variable base, so that antt computes none of them.
 use mathlib.Core.Path.{◌≡◌, refl, sym, ap, ap₂, ◌∙◌, subst}
-use Prim.Native.Nat.{ℕ, zero, suc, ◌+◌, ◌-◌, ◌*◌, ◌/◌, ◌^◌, ◌≤◌, ◌<◌}
+use Prim.Native.Nat.{ℕ, zero, suc, ◌+◌, ◌-◌, ◌*◌, ◌^◌, ◌≤◌, ◌<◌}
 use native.Mathlib.Nat.{le_trans, le_of_eq, lt_of_lt_of_le, lt_of_le_of_lt, mul_assoc, mul_comm, mul-pos, mul-mul-mul_comm, pow-suc, pow-zero, one-le-pow, mul-le-mul_left, mul-le-mul_right, mul-lt-mul_of_pos_right, pow-le-pow_left, two-pow-succ, le_of_mul-le-mul_right, lt_of_mul-lt-mul_right, div-mul-le_self, lt-div-mul-add, zero-lt-suc, one-mul, suc-mul}
 use native.Mathlib.Omega.{arith}
 use lib.Pow.{pow-add, pow_pos}
 use lib.Ieee.{size}
 use lib.Ieee.Digits.{size-lt, size_reaches}
 use Rattle.float.proofs.Powers.{mul_pow, pow_mul, at-most-twice}
-use Rattle.logarithm.specs.Logarithm.{squared, bit_of, fraction_of, cut_of, whole_log_of}
+use Rattle.logarithm.specs.Logarithm.{Digits31, squared, bit_of, next_of, fraction_of, cut_of, whole_log_of}
 use Rattle.logarithm.proofs.Squaring.{next}
 
 -- ---- both bounds, through k squarings
@@ -51,7 +51,7 @@ unfolding fraction_of
 fraction-bounds zero m lo hi = (rw (pow_one m) lo, rw (pow_one m) (omega arith))
 fraction-bounds (suc k) m lo hi =
     let b = bit_of (squared m) in
-    let m' = squared m / 2 ^ b in
+    let m' = next_of m in
     let s = next m lo hi in
     let ih = fraction-bounds k m' s.0 s.1 in
     subst (λ (q : ℕ). Bounds q m (b * 2 ^ k + fraction_of k m')) (sym (two-pow-succ k))
@@ -86,6 +86,22 @@ cut_in n y e =
     let r = cut-of n p m (m * p) (pow_pos y) lo hi refl (omega (arith, div-mul-le_self (n * 2 ^ 31) (2 ^ size n))) (omega (arith, lt-div-mul-add {a = n * 2 ^ 31} (pow_pos (size n)))) in
     (r.0, r.1, r.2, subst (λ (x : ℕ). n * (2 ^ 30 * 2 ^ 30) ≤ x) (mul_assoc m p (2 ^ 30 + 1) ∙ ap (λ (x : ℕ). m * x) (mul_comm p (2 ^ 30 + 1))) r.3)
 
+some_digit : (n : ℕ) → 0 < n → size n ≡ suc (size n - 1)
+some_digit n h = go (size n) refl
+  where
+    none : (a b : ℕ) → a ≡ 1 → 0 < b → b < a → ⊥
+    none a b e h l = omega arith
+
+    one_more : (z : ℕ) → suc z ≡ suc (suc z - 1)
+    one_more z = omega arith
+
+    go : (z : ℕ) → size n ≡ z → z ≡ suc (z - 1)
+    go zero e = absurd (none (2 ^ size n) n (ap (λ (x : ℕ). 2 ^ x) e) h (size-lt n))
+    go (suc z) e = one_more z
+
+pub cut-digits : (n : ℕ) → 0 < n → Digits31 (cut_of n)
+cut-digits n h = let c = cut_in n (size n - 1) (some_digit n h) in (c.0, c.1)
+
 -- ---- from m to n
 
 final_low : (c m n y q f : ℕ) → 0 < c → m * 2 ^ y ≤ n * c → 2 ^ f * c ^ q ≤ m ^ q → 2 ^ (y * q + f) ≤ n ^ q
@@ -113,19 +129,6 @@ final_high d m n y q f p few s h =
 
     two-more : (a f : ℕ) → suc (a + suc f) ≡ a + f + 2
     two-more a f = omega arith
-
-some_digit : (n : ℕ) → 0 < n → size n ≡ suc (size n - 1)
-some_digit n h = go (size n) refl
-  where
-    none : (a b : ℕ) → a ≡ 1 → 0 < b → b < a → ⊥
-    none a b e h l = omega arith
-
-    one_more : (z : ℕ) → suc z ≡ suc (suc z - 1)
-    one_more z = omega arith
-
-    go : (z : ℕ) → size n ≡ z → z ≡ suc (z - 1)
-    go zero e = absurd (none (2 ^ size n) n (ap (λ (x : ℕ). 2 ^ x) e) h (size-lt n))
-    go (suc z) e = one_more z
 
 pub log_bounds : (k n : ℕ) → 0 < n → (2 ^ k + 2 ^ k) + (2 ^ k + 2 ^ k) ≤ 2 ^ 30 + 1 → (2 ^ whole_log_of k n ≤ n ^ (2 ^ k)) × (n ^ (2 ^ k) < 2 ^ (whole_log_of k n + 2))
 unfolding whole_log_of

@@ -19,8 +19,9 @@ use Rattle.float.specs.Arithmetic.{zero64}
 use Rattle.float.proofs.Powers.{value-power, two-power}
 use Rattle.float.proofs.Units.{units-value, units-pos, units_lt}
 use Rattle.logarithm.specs.Logarithm.{steps, cut_of, whole_log_of, units_log_of, log_of, negative, quotient_of, log2_at, log2_to, log2_of, log10_two, log10_of, Within}
-use Rattle.logarithm.proofs.Squaring.{fraction-lt}
-use Rattle.logarithm.proofs.Bounds.{log_bounds}
+use Rattle.logarithm.specs.Laws.{SignificandLaws}
+use Rattle.logarithm.proofs.Squaring.{digits_kept, bits_after, fraction-lt}
+use Rattle.logarithm.proofs.Bounds.{cut-digits, log_bounds}
 use Rattle.logarithm.proofs.Divided.{minus-small, quotient-value}
 use Rattle.logarithm.proofs.Small.{value-finite, value-small, mul-finite, mul_small}
 
@@ -106,6 +107,14 @@ module _ (k : ℕ) (x : Float) (t : T (fits binary64 x)) (h : lt zero64 x ≡ tr
     where
       room : (k : ℕ) → k ≤ 42 → 1074 * 2 ^ k < 2 ^ 53
       room k l = let p : 2 ^ k ≤ 2 ^ 42 = pow_mono l in omega arith
+
+-- ---- the significand
+
+pub significand_laws : SignificandLaws
+significand_laws = record {
+  digits = λ x t h f i. digits_kept i (cut_of (units_of x)) (cut-digits (units_of x) (above x t h f).some);
+  bits_after = bits_after;
+}
 
 -- ---- the logarithm to 24 bits
 

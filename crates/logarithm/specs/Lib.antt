@@ -1,2 +1,3 @@
 pub mod Logarithm
+pub mod Laws
 pub mod Examples

@@ -11,6 +11,10 @@ steps = 24
 
 -- ---- F
 
+-- m has 31 binary digits: m / 2 ^ 30 is at least 1 and below 2
+abbrev pub Digits31 : ℕ → Type 0
+Digits31 m = (2 ^ 30 ≤ m) × (m < 2 ^ 31)
+
 -- floor(m * m / 2 ^ 30)
 abbrev pub squared : ℕ → ℕ
 squared m = m * m / 2 ^ 30
@@ -19,10 +23,19 @@ squared m = m * m / 2 ^ 30
 abbrev pub bit_of : ℕ → ℕ
 bit_of m = cond (leb (2 ^ 31) m) 1 0
 
--- the k bits, the first the highest. After a 1 bit m becomes floor(m / 2), after a 0 bit it stays.
+-- the next m: after a 1 bit floor(squared m / 2), after a 0 bit the square itself
+abbrev pub next_of : ℕ → ℕ
+next_of m = squared m / 2 ^ bit_of (squared m)
+
+-- the significand m when a squaring starts, after i others
+unfoldable pub significand_of : ℕ → ℕ → ℕ
+significand_of zero m = m
+significand_of (suc i) m = significand_of i (next_of m)
+
+-- the k bits, the first the highest
 unfoldable pub fraction_of : ℕ → ℕ → ℕ
 fraction_of zero m = 0
-fraction_of (suc k) m = bit_of (squared m) * 2 ^ k + fraction_of k (squared m / 2 ^ bit_of (squared m))
+fraction_of (suc k) m = bit_of (squared m) * 2 ^ k + fraction_of k (next_of m)
 
 -- ---- N
 

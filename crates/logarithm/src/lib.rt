@@ -1,10 +1,10 @@
 // The logarithm of an f64 to base 2 and to base 10, by whole numbers.
 #![tactic(auto)]
 
-ghost use Rattle.std.specs.Prelude.{◌≡◌, ◌+◌, ◌*◌, ◌^◌, ◌≤◌, ◌<◌};
+ghost use Rattle.std.specs.Prelude.{◌≡◌, ◌+◌, ◌*◌, ◌^◌, ◌<◌};
 ghost use Rattle.float.specs.Kind.{InRange};
 ghost use Rattle.std.specs.Float.Ieee.{minus};
-ghost use Rattle.logarithm.specs.Logarithm.{steps, fraction_of, whole_log_of, quotient_of, log2_of, log10_of};
+ghost use Rattle.logarithm.specs.Logarithm.{Digits31, steps, fraction_of, whole_log_of, quotient_of, log2_of, log10_of};
 
 use float::{Kind, Parts};
 
@@ -22,18 +22,21 @@ const LEAST: u64 = 1074 * SCALE;
 // The f64 nearest log10 2.
 const LOG10_2: f64 = 0.3010299956639812;
 
-// The bits of the logarithm of m / 2^30. `whole_log` shows the bounds.
-fn fraction(m: u64) -> u64
-    requires { (2 ^ 30 ≤ m) × (m < 2 ^ 31) }
+// The bits of the logarithm of m / 2^30. `whole_log` shows the bounds. Whenever a squaring starts 2^30 <= s < 2^31, so that 32 bits hold s; only the
+// product is wider. q has at most 32 bits too, but stays in the product's 64: the bit is then one shift of the product, not two.
+#[tactic(auto, using(crate::proofs::Squaring::square_below, crate::proofs::Squaring::bits_below, crate::proofs::Squaring::s_next, crate::proofs::Squaring::f_next))]
+fn fraction(m: u32) -> u64
+    requires { Digits31 m }
     ensures { result ≡ fraction_of steps m }
 {
     let mut s = m;
     let mut f = 0u64;
     for _ in 0..STEPS {
-        let q = (s * s) >> 30;
+        let wide = u64::from(s);
+        let q = (wide * wide) >> 30;
         let bit = q >> 31;
         f = f * 2 + bit;
-        s = q >> bit;
+        s = (q as u32) >> bit;
     }
     f
 }
@@ -44,7 +47,7 @@ fn whole_log(p: Parts) -> u64
     ensures { (result ≡ whole_log_of steps (p.sig * 2 ^ p.exp)) × (result < 2 ^ (12 + steps)) }
 {
     let zeros = p.sig.leading_zeros();
-    let m = (p.sig << zeros) >> 33;
+    let m = ((p.sig << zeros) >> 33) as u32;
     let place = 63 - u64::from(zeros) + p.exp;
     place * SCALE + fraction(m)
 }

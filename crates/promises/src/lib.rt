@@ -20,6 +20,7 @@ ghost use Rattle.ducklines.specs.Layouts.{RunLayouts};
 ghost use Rattle.layout.specs.Laws.{LayoutLaws};
 ghost use Rattle.channels.specs.Laws.{BedLaws};
 ghost use Rattle.beds.specs.Laws.{NamedBedLaws};
+ghost use Rattle.logarithm.specs.Laws.{SignificandLaws};
 ghost use Rattle.promises.specs.StandIns.{StandIns};
 ghost use Rattle.promises.specs.Loudness.{Loudness};
 ghost use Rattle.promises.specs.Voice.{Voice};
@@ -90,6 +91,12 @@ pub fn run_layouts()
 // The bounds of logarithm and power, and that the root is the nearest f64 and `round` the nearest whole number.
 pub fn stand_ins()
     ensures { StandIns }
+{}
+
+// Whenever a squaring of the logarithm starts its significand has 31 binary digits, and the bits that follow come of it.
+#[tactic(auto, using(logarithm::proofs::Results::significand_laws))]
+pub fn significand()
+    ensures { SignificandLaws }
 {}
 
 // The level reads what BS.1770 defines, and keeps what the Rust keeps.

@@ -1,8 +1,7 @@
--- `logarithm::fraction` meets its contract: the bits so far and those of what is left are all the bits.
+-- `logarithm::fraction` meets its contract: after each turn s is the significand and f has the bits so far.
 use mathlib.Core.Path.{◌≡◌}
-use Prim.Native.Nat.{◌≤◌, ◌<◌, ◌+◌, ◌-◌, ◌*◌, ◌^◌}
-use Rattle.logarithm.specs.Logarithm.{steps, fraction_of}
+use Rattle.logarithm.specs.Logarithm.{significand_of, fraction_of}
 use Rattle.logarithm.proofs.fraction.Given as goal
 
 abbrev pub invariant-loop : goal.invariant-loop
-invariant-loop l = (2 ^ 30 ≤ l.s) × (l.s < 2 ^ 31) × (l.f * 2 ^ (steps - l.counter) + fraction_of (steps - l.counter) l.s ≡ fraction_of steps l.m)
+invariant-loop l = (l.s ≡ significand_of l.counter l.m) × (l.f ≡ fraction_of l.counter l.m)
