@@ -10,7 +10,7 @@
  * Threads. The library keeps nothing itself: threads may use different images at the same time. Two calls on one image are not made at the
  * same time.
  *
- * Stack. A thread with 192 KiB can make every call (160 KiB do too, 152 KiB don't); musl gives a thread 128 KiB unless it asks for more.
+ * Stack. A thread with 192 KiB can make every call (136 KiB do too, 132 KiB don't); musl gives a thread 128 KiB unless it asks for more.
  *
  * Floating point. The answers are promised for the mode that a process starts with: rounding to nearest, and numbers below 2^-1022 neither
  * flushed to zero (FTZ) nor read as zero (DAZ). A program that is linked with -Ofast or -ffast-math sets FTZ and DAZ at its start, for these

@@ -1,5 +1,5 @@
 -- Laws of lists of numbers: one laid over another, one made from a function, bounds of their numbers, and comparisons of two.
-use Rattle.std.proofs.Common.{◌≡◌, ℕ, zero, suc, ◌+◌, ◌<◌, ◌≤◌, min, List, [], ◌∷◌, ◌++◌, map, length, get_or, take, drop, set, replicate, sym, refl, ap, ◌∙◌, subst, append_assoc, append-nil, le_of_suc-le-suc, not-suc-le-zero, add-zero, le_of_lt, add-suc, suc-add, lt_of_not-le, zero-add, add-one, arith, take-append-drop, drop_of_length-le, length-take-le, take_all, take-suc, take_at, drop-drop, bytes_eq}
+use Rattle.std.proofs.Common.{◌≡◌, ℕ, zero, suc, ◌+◌, ◌<◌, ◌≤◌, min, List, [], ◌∷◌, ◌++◌, map, length, get_or, take, drop, set, replicate, sym, refl, ap, ◌∙◌, subst, append_assoc, append-nil, le_of_suc-le-suc, not-suc-le-zero, add-zero, le_of_lt, add-suc, suc-add, lt_of_not-le, zero-add, add-one, arith, take-append-drop, drop_of_length-le, length-take-le, take_all, take-suc, take_at, drop-drop, bytes_eq, Bool, true, false, ◌&&◌, eqb, drop-cons, eq-eqb, ne_eqb}
 use native.Mathlib.Decide.{dec_le}
 use borrow.Rule.Slice.PartMut.{put_mid}
 use Rattle.std.proofs.lemmas.Bool.Decides.{same_from_decides}
@@ -182,3 +182,21 @@ same-both {a} {b} {c} {d} f g =
     let p = bytes_eq-Decides a b in
     let q = bytes_eq-Decides c d in
     same_from_decides (bytes_eq a b) (bytes_eq c d) p ((λ t. g (q.0 t)), λ e. q.1 (f e))
+
+pub same-eq : (xs ys : List ℕ) → bytes_eq xs ys ≡ true → xs ≡ ys
+same-eq xs ys = (bytes_eq-Decides xs ys).0
+
+-- a loop that compares place by place: what is left comes to the same
+same_step : (a b : List ℕ) (k : ℕ) → k < length a → k < length b
+    → bytes_eq (drop k a) (drop k b) ≡ (eqb (get_or a k 0) (get_or b k 0) && bytes_eq (drop (suc k) a) (drop (suc k) b))
+same_step a b k h g = rw (drop-cons a k 0 h, drop-cons b k 0 g)
+
+pub same_next : (a b : List ℕ) (k : ℕ) → k < length a → k < length b → get_or a k 0 ≡ get_or b k 0 → bytes_eq (drop k a) (drop k b) ≡ bytes_eq a b
+    → bytes_eq (drop (k + 1) a) (drop (k + 1) b) ≡ bytes_eq a b
+same_next a b k h g e s =
+    rw add-one (sym (same_step a b k h g ∙ ap (λ (z : Bool). z && bytes_eq (drop (suc k) a) (drop (suc k) b)) (eq-eqb (get_or a k 0) (get_or b k 0) e)) ∙ s)
+
+pub same_stop : (a b : List ℕ) (k : ℕ) → k < length a → k < length b → (get_or a k 0 ≡ get_or b k 0 → ⊥) → bytes_eq (drop k a) (drop k b) ≡ bytes_eq a b
+    → false ≡ bytes_eq a b
+same_stop a b k h g e s =
+    sym (same_step a b k h g ∙ ap (λ (z : Bool). z && bytes_eq (drop (suc k) a) (drop (suc k) b)) (ne_eqb (get_or a k 0) (get_or b k 0) e)) ∙ s

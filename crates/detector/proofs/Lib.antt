@@ -9,3 +9,5 @@ pub mod Examples
 pub mod Rust
 pub mod Valid
 pub mod Silent
+pub mod Room
+pub mod Stored

@@ -5,6 +5,8 @@
 
 mod help;
 
+ghost use Rattle.std.specs.Prelude.{◌≡◌, Ok, Err, MatchResult};
+
 use beds::Bed;
 use frame_bytes::BUFFER;
 use line_text::TEXT;
@@ -23,6 +25,13 @@ enum Failure {
     Unwritten(io::Error),
 }
 
+// How many bytes a read brought, none at the end of the input: one that failed isn't that end.
+fn brought(read: io::Result<usize>) -> Result<usize, Failure>
+    ensures { MatchResult read (λ n. result ≡ Ok n) (λ why. result ≡ Err (Failure.Unread why)) }
+{
+    read.map_err(Failure::Unread)
+}
+
 // The lines of all whole frames, and how many bytes are left over. Buffer and text are arrays, with counts of what they hold: no heap while it runs.
 fn all_frames(
     bed: Bed,
@@ -35,7 +44,7 @@ fn all_frames(
     let mut held: usize = 0;
     // No `while`: nothing says that the input ends. The count says that the loop does.
     for _ in 0..u64::MAX {
-        let count = input::read(from, buffer, held).map_err(Failure::Unread)?;
+        let count = brought(input::read(from, buffer, held))?;
         if count == 0 {
             break;
         }

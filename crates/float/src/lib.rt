@@ -111,6 +111,9 @@ pub fn classify(x: f64) -> Kind
 
 // A float, of 64 or of 32 bits.
 pub trait Real: Copy {
+    // Whether a test of many ends with the first that isn't finite.
+    const ENDS_EARLY: bool;
+
     ghost finite: { Self → Bool };
 
     ghost all_finite: { List Self → Bool };
@@ -125,6 +128,8 @@ pub trait Real: Copy {
 }
 
 impl Real for f64 {
+    const ENDS_EARLY: bool = true;
+
     ghost finite = { scale.finite };
 
     ghost all_finite = { all_finite };
@@ -140,6 +145,9 @@ impl Real for f64 {
 }
 
 impl Real for f32 {
+    // Not so, that the processor tests four at once: these are samples, of which few aren't finite.
+    const ENDS_EARLY: bool = false;
+
     ghost finite = { scale.finite };
 
     ghost all_finite = { all_finite };
@@ -161,13 +169,16 @@ pub fn finite<T: Real>(x: T) -> bool
     x.finite()
 }
 
-// Whether every number of v is finite. It has no early end, so that the processor tests four at once.
+// Whether every number of v is finite.
 pub fn all_finite<T: Real>(v: &[T]) -> bool
     ensures { result ≡ T.all_finite v.now }
 {
     let mut all = true;
     for x in v {
         all = all & finite(*x);
+        if T::ENDS_EARLY && !all {
+            return false;
+        }
     }
     all
 }

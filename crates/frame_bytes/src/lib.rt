@@ -38,7 +38,7 @@ pub fn size(count: u64) -> usize
 }
 
 // The sample whose first byte is at `at`.
-fn sample(bytes: &[u8], at: usize) -> f32
+pub fn sample(bytes: &[u8], at: usize) -> f32
     ensures { result ≡ sample_at bytes.now at }
 {
     float::from_bits32(read4(bytes, at))

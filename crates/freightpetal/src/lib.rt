@@ -23,6 +23,8 @@ pub fn new() -> Chain
 }
 
 // One frame, 480 samples of the key and of each of the bed's channels, one channel after the other. Refusals 1, 2, 4, 5.
+// It stays a function of its own in the machine code: a call on an image has read that before the frame takes its stack (library/freightpetal.h).
+#[inline(never)]
 pub fn frame(c: Chain, key: &[f32], bed: &[f32]) -> Framed
     ensures { (result ≡ frame_of c key.now bed.now) × (after_frame result ≡ port c (event (frame key.now bed.now))) }
 {

@@ -25,6 +25,16 @@ framed-refused b a f o e = (λ i. record { code = e i; bytes = b; words = a }) �
 
 -- ---- before it: the lent bytes are opened
 
+module _ (b : List ℕ) {o : Changed} (p : o ≡ open_of b) where
+  opened : chain_by o.chain o.outcome ≡ opened_of b
+  opened = ap (λ (r : Changed). chain_by r.chain r.outcome) p
+
+  pub opened-ok : {x : Unit} → o.outcome ≡ Ok x → Ok o.chain ≡ opened_of b
+  opened-ok e = ap (chain_by o.chain) (sym e) ∙ opened
+
+  pub opened-err : {r : Refusal} → o.outcome ≡ Err r → Err r ≡ opened_of b
+  opened-err e = ap (chain_by o.chain) (sym e) ∙ opened
+
 module _ (b : List ℕ) where
   module _ (a : List ℕ) (key bed : List Float) where
     pub frame_ok : {d : Chain} {f : Framed} {l : Answered} → Ok d ≡ opened_of b → f ≡ frame_of d key bed → l ≡ framed_in b a f → l ≡ frame_in b a key bed

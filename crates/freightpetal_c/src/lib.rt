@@ -7,7 +7,7 @@ ghost use Rattle.std.specs.Prelude.{◌≡◌};
 ghost use Rattle.refusal.specs.Table.{code_of};
 ghost use Rattle.words.specs.Words.{settings_from, layout_from};
 ghost use Rattle.freightpetal_c.specs.Lent.{
-  opened_of,
+  open_of,
   fresh_in,
   code_in,
   frame_in,
@@ -18,7 +18,7 @@ ghost use Rattle.freightpetal_c.specs.Lent.{
   restore_in,
 };
 
-use chain::{Chain, Changed};
+use chain::Changed;
 use layout::Layout;
 use refusal::Refusal;
 use settings::Settings;
@@ -30,17 +30,19 @@ pub fn freightpetal_fresh(image: &mut [u8]) -> u64
     refusal::code(freightpetal::save(freightpetal::new(), image))
 }
 
-// The chain whose image is lent. Refusal 6 where the bytes aren't as long as a saved image, then 7, 8.
+// The chain whose image is lent. Refusal 6 where the bytes aren't as long as a saved image, then 7, 8. No `Result<Chain, Refusal>`: each `?` would copy
+// the chain on the stack.
 #[tactic(auto, unfolding(crate::specs::Lent::open_of))]
-fn open(image: &[u8]) -> Result<Chain, Refusal>
-    ensures { result ≡ opened_of image.now }
+fn open(image: &[u8]) -> Changed
+    ensures { result ≡ open_of image.now }
 {
     if image.len() != image::BYTES {
-        return Err(Refusal::WrongLength);
+        return Changed {
+            chain: freightpetal::new(),
+            outcome: Err(Refusal::WrongLength),
+        };
     }
-    let c = freightpetal::restore(freightpetal::new(), image);
-    c.outcome?;
-    Ok(c.chain)
+    freightpetal::restore(freightpetal::new(), image)
 }
 
 // Saves what a settings call, a reset, a layout call or a restore made of a chain. Here and in `frame` the bytes have an image's length, so that the save
@@ -57,15 +59,16 @@ fn keep(image: &mut [u8], c: Changed) -> Result<(), Refusal>
 pub fn freightpetal_check(image: &[u8]) -> u64
     ensures { result ≡ code_in image.now }
 {
-    refusal::code(open(image))
+    refusal::code(open(image).outcome)
 }
 
 fn frame(image: &mut [u8], key: &[f32], bed: &[f32], answer: &mut [u64; 41]) -> Result<(), Refusal>
     ensures { record { code = code_of result; bytes = image.new; words = answer.new }
         ≡ frame_in image.old answer.old key.now bed.now }
 {
-    let chain = open(image)?;
-    let f = freightpetal::frame(chain, key, bed);
+    let opened = open(image);
+    opened.outcome?;
+    let f = freightpetal::frame(opened.chain, key, bed);
     let a = f.outcome?;
     let _ = freightpetal::save(f.chain, image);
     *answer = words::answer(a);
@@ -84,8 +87,9 @@ pub fn freightpetal_frame(image: &mut [u8], key: &[f32], bed: &[f32], answer: &m
 fn set(image: &mut [u8], s: Settings) -> Result<(), Refusal>
     ensures { record { code = code_of result; bytes = image.new } ≡ set_in image.old s }
 {
-    let chain = open(image)?;
-    keep(image, freightpetal::set(chain, s))
+    let opened = open(image);
+    opened.outcome?;
+    keep(image, freightpetal::set(opened.chain, s))
 }
 
 // All settings, 12 words in the image's order; the flags, words 7 and 12, are 0 or not. Refusals 6, 7, 8, 3.
@@ -98,8 +102,9 @@ pub fn freightpetal_settings(image: &mut [u8], settings: &[u64; 12]) -> u64
 fn reset(image: &mut [u8], strand: u64) -> Result<(), Refusal>
     ensures { record { code = code_of result; bytes = image.new } ≡ reset_in image.old strand }
 {
-    let chain = open(image)?;
-    keep(image, freightpetal::reset(chain, strand))
+    let opened = open(image);
+    opened.outcome?;
+    keep(image, freightpetal::reset(opened.chain, strand))
 }
 
 // The key strand (0) or the bed strand (1) begins anew; the bed keeps its layout. Refusals 6, 7, 8, 9.
@@ -112,8 +117,9 @@ pub fn freightpetal_reset(image: &mut [u8], strand: u64) -> u64
 fn lay_out(image: &mut [u8], l: Layout) -> Result<(), Refusal>
     ensures { record { code = code_of result; bytes = image.new } ≡ layout_in image.old l }
 {
-    let chain = open(image)?;
-    keep(image, freightpetal::layout(chain, l))
+    let opened = open(image);
+    opened.outcome?;
+    keep(image, freightpetal::layout(opened.chain, l))
 }
 
 // The bed's layout: the number of its channels, and eight times azimuth, elevation and LFE flag, of which those in use are read. Refusals 6, 7, 8, 10.

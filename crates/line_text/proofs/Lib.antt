@@ -1,3 +1,4 @@
 pub mod Putting
 pub mod Digits
 pub mod Parts
+pub mod Cast

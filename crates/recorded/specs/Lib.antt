@@ -1,1 +1,3 @@
 pub mod Signals
+pub mod Reads
+pub mod Words

@@ -76,14 +76,20 @@ impl List for Decisions {
     }
 
     fn step(&mut self, replay: &mut Replay, i: u64) -> Result<(), EndsEarly> {
-        let heard = heard(replay.words.array()?);
-        let loudness = loudness(replay.words.array()?);
-        let f = vad::finish(self.decision, loudness, heard, self.settings);
+        let (frame, first) = replay.words.padded();
+        let (readings, second) = replay.words.padded();
+        let f = vad::finish(
+            self.decision,
+            loudness(readings),
+            heard(frame),
+            self.settings,
+        );
         self.decision = f.strand.decision;
         let mut answer = replay.answer(i);
-        answer.compare(&words::strand(f.state))?;
-        answer.compare(&stored(self.decision))?;
+        let state = answer.compare(&words::strand(f.state));
+        let after = answer.compare(&stored(self.decision));
         answer.accept(f.finite);
+        first.and(second).and(state).and(after)?;
         answer.count();
         Ok(())
     }

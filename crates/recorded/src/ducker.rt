@@ -61,14 +61,15 @@ impl List for Ducker {
     }
 
     fn step(&mut self, replay: &mut Replay, i: u64) -> Result<(), EndsEarly> {
-        let duck = settings(replay.words.array()?);
-        let heard = inputs(replay.words.array()?);
-        let f = ratio::frame(self.loops, duck, heard);
+        let (duck, first) = replay.words.padded();
+        let (heard, second) = replay.words.padded();
+        let f = ratio::frame(self.loops, settings(duck), inputs(heard));
         self.loops = f.loops;
         let mut answer = replay.answer(i);
-        answer.compare(&words::status(f.reduction, f.status))?;
-        answer.compare(&stored(self.loops))?;
+        let status = answer.compare(&words::status(f.reduction, f.status));
+        let after = answer.compare(&stored(self.loops));
         answer.accept(f.finite);
+        first.and(second).and(status).and(after)?;
         answer.count();
         Ok(())
     }

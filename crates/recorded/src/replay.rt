@@ -11,7 +11,7 @@ pub const SHOWN: u64 = 5;
 pub struct Replay<'a> {
     out: Stdout,
     name: &'a str,
-    pub words: Words<'a>,
+    pub words: Words,
     counts: Counts,
 }
 
@@ -32,7 +32,7 @@ pub struct Answer<'r, 'a> {
 }
 
 impl<'a> Replay<'a> {
-    fn new(out: Stdout, name: &'a str, words: Words<'a>) -> Replay<'a> {
+    fn new(out: Stdout, name: &'a str, words: Words) -> Replay<'a> {
         Replay {
             out,
             name,
@@ -56,16 +56,17 @@ impl<'a> Replay<'a> {
         }
     }
 
-    // Lets `next` go over the file, a record at a time. That the closure can be called is asked, here and below, wherever it is handed on.
+    // Lets `next` go over the file behind its text, a record at a time. That the closure can be called is asked, here and below, wherever it is handed on.
     fn all<F: FnMut(&mut Replay<'a>) -> Result<(), EndsEarly>>(
         &mut self,
         mut next: F,
     ) -> Result<(), EndsEarly>
         requires { F.IsAlwaysCallable next }
     {
+        self.words.text()?;
         // No `while`: nothing says that each turn reads a word. The count says that the loop ends.
         for _ in 0..u64::MAX {
-            if self.words.is_at_end() {
+            if self.words.is_at_end()? {
                 break;
             }
             next(self)?;
@@ -87,7 +88,7 @@ impl<'r, 'a> Answer<'r, 'a> {
     fn differs(&mut self, how: impl fmt::Display + Drop) {
         if self.replay.counts.differ < SHOWN {
             let name = self.replay.name;
-            let list = self.replay.counts.lists.saturating_sub(1);
+            let list = self.replay.counts.lists.wrapping_sub(1);
             let place = self.place;
             let _ = println!(self.replay.out; "{name}: list {list}, place {place}{how}");
         }
@@ -115,8 +116,8 @@ impl<'r, 'a> Answer<'r, 'a> {
         Ok(())
     }
 
-    // The Rust accepted each recorded frame, so one that runs away differs. A flag, as each step has it beside its values: its words are compared all the
-    // same.
+    // The Rust accepted each recorded frame, so one that runs away differs, also where the file ends within the frame. A flag, as each step has it beside its
+    // values: its words are compared all the same.
     pub fn accept(&mut self, finite: bool) {
         if !finite {
             self.differs(": runs away");
@@ -131,22 +132,6 @@ impl<'r, 'a> Answer<'r, 'a> {
     }
 }
 
-// Lets `next` replay a file, a record at a time, as far as that goes, and puts into `counts`, which is printed after an early end too, what came of it.
-fn replayed<F: FnMut(&mut Replay) -> Result<(), EndsEarly>>(
-    out: Stdout,
-    name: &str,
-    file: &[u8],
-    next: F,
-    counts: &mut Counts,
-) -> Result<(), EndsEarly>
-    requires { F.IsAlwaysCallable next }
-{
-    let mut replay = Replay::new(out, name, Words::new(file)?);
-    let ended = replay.all(next);
-    *counts = replay.counts;
-    ended
-}
-
 // Lets `next` replay the file with this name, a record at a time, and says why where that doesn't come to the file's end. What was counted.
 pub fn records<F: FnMut(&mut Replay) -> Result<(), EndsEarly>>(
     rt: &HostRuntime,
@@ -156,18 +141,19 @@ pub fn records<F: FnMut(&mut Replay) -> Result<(), EndsEarly>>(
     requires { F.IsAlwaysCallable next }
 {
     let out = rt.stdout();
-    let mut counts = Counts::default();
-    match file::read(rt, name) {
-        Ok((bytes, whole)) => {
-            if let Err(why) = replayed(out, name, bytes.as_slice(), next, &mut counts).and(whole) {
+    match file::open(rt, name) {
+        Ok(words) => {
+            let mut replay = Replay::new(out, name, words);
+            if let Err(why) = replay.all(next) {
                 let _ = println!(out; "{name}: {why}");
             }
+            replay.counts
         }
         Err(_) => {
             let _ = println!(out; "{name}: no such file");
+            Counts::default()
         }
     }
-    counts
 }
 
 // Lets `next` replay the file of a module, a record at a time, and says what its lists and its answers came to.

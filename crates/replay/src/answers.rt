@@ -1,4 +1,7 @@
 // Answers on standard output, as words.
+ghost use Rattle.std.specs.Prelude.{◌≡◌};
+ghost use Rattle.std.specs.Int.{w64, to_le_bytes};
+
 use super::input::IMAGE;
 use chain::Answer;
 use refusal::Refusal;
@@ -7,16 +10,23 @@ use std::io;
 // Words of the answer to a frame that passes.
 const WORDS: usize = 42;
 
+// A word's bytes, the lowest first.
+fn bytes(word: u64) -> [u8; 8]
+    ensures { result ≡ to_le_bytes w64 word }
+{
+    word.to_le_bytes()
+}
+
 // The code of a frame that passed, 0, and the words of its answer, in one write.
 fn passed(rt: &HostRuntime, a: Answer) -> io::Result<()> {
     let mut answer = [0u64; WORDS];
     answer[1..].copy_from_slice(&words::answer(a));
-    rt.write_all(answer.map(u64::to_le_bytes).as_flattened())
+    rt.write_all(answer.map(bytes).as_flattened())
 }
 
 // A call's code: 0 where it passed, else the refusal's number. All that most calls are answered.
 pub fn code<T: Copy>(rt: &HostRuntime, outcome: Result<T, Refusal>) -> io::Result<()> {
-    rt.write_all(&refusal::code(outcome).to_le_bytes())
+    rt.write_all(&bytes(refusal::code(outcome)))
 }
 
 // What a frame got.

@@ -1,6 +1,8 @@
 // The calls of standard input. Nothing is read ahead of a call's end, so that its answer can be written before the next one is there. What the input
 // doesn't have is an error, but that no call begins.
-ghost use Rattle.std.specs.Prelude.{◌≡◌, min};
+ghost use Rattle.std.specs.Prelude.{◌≡◌, ◌*◌, ◌<◌, ◌≤◌, min, length};
+ghost use Rattle.std.specs.Int.{w32, w64, from_le_bytes};
+ghost use Rattle.frame_bytes.specs.Bytes.{sample_at, samples_at};
 
 use std::io::Read;
 
@@ -37,14 +39,28 @@ pub fn next_letter(rt: &HostRuntime) -> Option<u8> {
     next(rt).map(u8::from_le_bytes).ok()
 }
 
+// The number of 32 bits with these bytes, the lowest first.
+fn count(bytes: [u8; 4]) -> u32
+    ensures { result ≡ from_le_bytes w32 bytes }
+{
+    u32::from_le_bytes(bytes)
+}
+
+// The number of 64 bits with these bytes, the lowest first.
+fn word(bytes: [u8; 8]) -> u64
+    ensures { result ≡ from_le_bytes w64 bytes }
+{
+    u64::from_le_bytes(bytes)
+}
+
 // The next number of 32 bits.
 pub fn next_count(rt: &HostRuntime) -> Result<u32, Short> {
-    next(rt).map(u32::from_le_bytes)
+    next(rt).map(count)
 }
 
 // The next number of 64 bits.
 pub fn next_word(rt: &HostRuntime) -> Result<u64, Short> {
-    next(rt).map(u64::from_le_bytes)
+    next(rt).map(word)
 }
 
 // The next N words.
@@ -83,6 +99,25 @@ pub fn next_places(rt: &HostRuntime, count: u32) -> Result<[u64; PLACES], Short>
     Ok(places)
 }
 
+// Sample k.
+fn sample(b: &[u8; BYTES], k: usize) -> f32
+    requires { k < 3841 }
+    ensures { result ≡ sample_at b.now (4 * k) }
+{
+    frame_bytes::sample(b, 4 * k)
+}
+
+// Puts the first samples into all places of x. A loop of its own beside `frame_bytes::read_samples`: a must-fail edit is made in its step.
+#[tactic(auto, using(frame_bytes::proofs::Samples::sample_read, frame_bytes::proofs::Samples::samples_read))]
+fn samples(b: &[u8; BYTES], x: &mut [f32])
+    requires { length x.old ≤ 3841 }
+    ensures { x.new ≡ samples_at b.now 0 (length x.old) }
+{
+    for (k, y) in x.iter_mut().enumerate() {
+        *y = sample(b, k);
+    }
+}
+
 // The next strand, of which the first `kept(count, STRAND)` samples are kept: they are put at the start of `to`.
 pub fn next_strand<'a>(
     rt: &HostRuntime,
@@ -93,7 +128,7 @@ pub fn next_strand<'a>(
     let count = u64::from(count);
     let n = kept(count, STRAND);
     fill(rt, &mut b[..4 * n])?;
-    frame_bytes::read_samples(&b, &mut to[..n]);
+    samples(&b, &mut to[..n]);
     skip(rt, &mut b, 4 * (count - n as u64))?;
     Ok(&to[..n])
 }

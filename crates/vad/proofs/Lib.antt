@@ -1,3 +1,4 @@
+pub mod Saturate
 pub mod Hold
 pub mod Finished
 pub mod Examples
