@@ -31,14 +31,6 @@ fresh_in b = record { code = code_of (save_verdict b); bytes = saved_in fresh_of
 unfoldable pub open_of : List ℕ → Changed
 open_of b = cond (eqb (length b) image_bytes) (restore_of fresh_of b) (unchanged fresh_of WrongLength)
 
--- the chain c where the call passed that made it
-abbrev pub chain_by : Chain → Result Unit Refusal → Result Chain Refusal
-chain_by c (Ok _) = Ok c
-chain_by c (Err r) = Err r
-
-abbrev pub opened_of : List ℕ → Result Chain Refusal
-opened_of b = chain_by (open_of b).chain (open_of b).outcome
-
 abbrev pub code_in : List ℕ → ℕ
 code_in b = code_of (open_of b).outcome
 

@@ -1,13 +1,13 @@
 -- `reset` meets its contract: what opening the bytes gave, then what was kept.
 use Rattle.std.proofs.lemmas.Result.{err_from_is_err_and}
 use Rattle.chain.specs.Chain.{reset_of}
-use Rattle.freightpetal_c.proofs.Lent.{opened-ok, opened-err, change_ok, change_err}
+use Rattle.freightpetal_c.proofs.Lent.{change_ok, change_err}
 use Rattle.freightpetal_c.proofs.reset.Goals as goal
 
 pub returns-in_err-opened : goal.returns-in_err-opened
 returns-in_err-opened c =
     let p = err_from_is_err_and c.from_residual.result c.from_residual.ensures.1 in
-    rw (p.1, p.2) (change_err _ (λ d. reset_of d c.args.strand) (opened-err _ c.open-opened.ensures c.in_err-opened.was))
+    rw (p.1, p.2) (change_err _ c.open-opened.ensures (λ d. reset_of d c.args.strand) c.in_err-opened.was)
 
 pub returns : goal.returns
-returns c = change_ok _ (λ d. reset_of d c.args.strand) (opened-ok _ c.open-opened.ensures c.in_ok-opened.was) c.reset.ensures.0 c.keep.ensures
+returns c = change_ok _ c.open-opened.ensures (λ d. reset_of d c.args.strand) c.in_ok-opened.was c.reset.ensures.0 c.keep.ensures

@@ -1,10 +1,10 @@
+-- `read_on` meets its contract: the first bytes stay, and those of each read stand behind them.
 use Rattle.std.proofs.Common.{◌<◌, ◌++◌, length, take, drop, ap, sym, subst, ◌∙◌, arith}
 use Rattle.std.proofs.Math.Seq.{take-add}
 use Rattle.recorded.specs.Reads.{ReadOn}
 use Rattle.recorded.proofs.Brought.{read_more}
 use Rattle.recorded.proofs.file.read_on.Goals as goal
 
--- the first bytes stay, and those of the read stand behind them
 pub loop-preserved : goal.loop-preserved
 loop-preserved g c =
     let end = c.loop.end in

@@ -1,3 +1,4 @@
+-- `read_on` meets its contract. The loop's invariant: each read so far brought a byte at least, and what they brought stands behind what was held.
 use Rattle.std.proofs.Common.{◌≤◌, length, take}
 use Rattle.recorded.specs.Reads.{ReadOn}
 use Rattle.recorded.proofs.file.read_on.Given as goal
